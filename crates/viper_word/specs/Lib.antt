@@ -1,1 +1,4 @@
 pub mod Words
+pub mod Fields
+pub mod Machine
+pub mod Digits
