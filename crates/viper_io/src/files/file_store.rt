@@ -71,6 +71,7 @@ impl<'a, R: Files> Store for FileStore<'a, R> {
 
     ghost longs = { λ s. s.longs };
 
+    /// The content of a file. It fails where the file can't be opened or read whole.
     #[tactic(auto, using(crate::proofs::Growth::grew_none, crate::proofs::Growth::grew_one))]
     fn fetch(&mut self, alloc: Global, name: &str, limit: u64) -> Result<Vec<u8>, FetchFault> {
         let failed = FailedCall::new(self.alloc, Call::Fetch, name)?;
@@ -84,6 +85,8 @@ impl<'a, R: Files> Store for FileStore<'a, R> {
         answer
     }
 
+    /// Makes a file hold the bytes. It fails where the file can't be made or written whole, and
+    /// the file may then hold anything.
     #[tactic(auto, using(crate::proofs::Growth::grew_none, crate::proofs::Growth::grew_one))]
     fn place(&mut self, name: &str, bytes: &[u8]) -> Result<(), PlaceFault> {
         let failed = FailedCall::new(self.alloc, Call::Place, name)?;

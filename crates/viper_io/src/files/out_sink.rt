@@ -1,4 +1,5 @@
-ghost use Rattle.std.specs.Prelude.{◌≡◌, None};
+ghost use Rattle.std.specs.Prelude.{◌≡◌, ◌≤◌, None, OnOk, IfErr};
+ghost use Rattle.viper_io.specs.Causes.{risen};
 
 use super::whole::write_whole;
 use crate::{Sink, SinkFault};
@@ -34,7 +35,12 @@ impl<T: Write> Sink for OutSink<T> {
 
     ghost faults = { λ faults. faults };
 
-    fn put(&mut self, bytes: &[u8]) -> Result<(), SinkFault> {
+    /// Writes the bytes. It fails where a write fails or takes nothing, and some may have gone out.
+    fn put(&mut self, bytes: &[u8]) -> Result<(), SinkFault>
+        ensures faults { self.old ≤ self.new }
+        ensures after_ok { OnOk result (self.new ≡ self.old) }
+        ensures after_failed { IfErr result (λ e. (e ≡ SinkFault.Failed) × (self.new ≡ risen self.old)) }
+    {
         if write_whole(&mut self.writer, bytes) {
             return Ok(());
         }

@@ -1,5 +1,5 @@
 ghost use Rattle.std.specs.Prelude.{◌≡◌, ◌≢◌, ◌≤◌, ◌<◌, [], ℕ, List, length, true, Some, OnOk, OnErr, IfOk, IfErr, option_map};
-ghost use Rattle.viper_io.specs.Causes.{Failure, risen};
+ghost use Rattle.viper_io.specs.Causes.{risen};
 ghost use Rattle.viper_io.specs.Held.{content_of, content_or_empty};
 
 use super::contents::Contents;
@@ -64,8 +64,20 @@ impl Store for SureShelf {
 
     ghost longs = { λ s. s.longs };
 
+    /// The content of a name. It never fails.
     #[tactic(auto, using(crate::proofs::Growth::grew_none))]
-    fn fetch(&mut self, alloc: Global, name: &str, limit: u64) -> Result<Vec<u8>, FetchFault> {
+    fn fetch(&mut self, alloc: Global, name: &str, limit: u64) -> Result<Vec<u8>, FetchFault>
+        ensures content { IfOk result (λ v. v.items ≡ content_or_empty self.old.contents name.now) }
+        ensures within { IfOk result (λ v. length v.items ≤ limit) }
+        ensures sure { IfErr result (λ e. e ≢ FetchFault.Failed) }
+        ensures longs { self.old.longs ≤ self.new.longs }
+        ensures too_long { IfErr result (λ e. e ≡ FetchFault.Long → limit < length (content_or_empty self.old.contents name.now)) }
+
+        // All that the call changes.
+        ensures after_ok { OnOk result (self.new ≡ self.old) }
+        ensures after_long { IfErr result (λ e. e ≡ FetchFault.Long → self.new ≡ record self.old { longs = risen self.old.longs }) }
+        ensures after_memory { IfErr result (λ e. e ≡ FetchFault.Memory → self.new ≡ self.old) }
+    {
         let bytes = self.contents.get(name).unwrap_or(&[]);
         if bytes.len() as u64 > limit {
             self.longs = self.longs.saturating_add(1);
@@ -74,8 +86,15 @@ impl Store for SureShelf {
         Ok(Vec::from_slice(alloc, bytes)?)
     }
 
+    /// Makes a name hold the bytes. It never fails.
     #[tactic(auto, using(crate::proofs::Growth::grew_none))]
-    fn place(&mut self, name: &str, bytes: &[u8]) -> Result<(), PlaceFault> {
+    fn place(&mut self, name: &str, bytes: &[u8]) -> Result<(), PlaceFault>
+        ensures ok { OnOk result (content_of self.new.contents name.now ≡ Some bytes.now) }
+        ensures others { (other : List ℕ) → other ≢ name.now → content_of self.new.contents other ≡ content_of self.old.contents other }
+        ensures sure { IfErr result (λ e. e ≡ PlaceFault.Memory) }
+        ensures longs { self.new.longs ≡ self.old.longs }
+        ensures memory { OnErr result (self.new ≡ self.old) }
+    {
         self.contents.set(name, bytes)?;
         Ok(())
     }
