@@ -1,0 +1,76 @@
+-- What the stores and sinks in memory hold, and what a call leaves of it.
+use Rattle.std.specs.Prelude.{ℕ, List, [], ◌∷◌, ◌++◌, length, Bool, nat_eq, nat_le, Option, Some, None, unwrap_or, Result, Ok, Err, if◌then◌else◌}
+use Rattle.std.specs.List.{list_any}
+use Rattle.std.specs.Str.{bytes_eq}
+use Rattle.viper_io.specs.Causes.{Failure, risen}
+use Rattle.viper_io.specs.declared.fault.Call.{Call}
+use Rattle.viper_io.specs.declared.fault.FetchFault.{FetchFault}
+use Rattle.viper_io.specs.declared.fault.FetchFault.TheVariants.{Failed, Long}
+
+-- names with their bytes; of two entries of one name the first counts
+abbrev pub Contents : Type 0
+Contents = List (List ℕ × List ℕ)
+
+-- what a name holds
+abbrev pub content_of : Contents → List ℕ → Option (List ℕ)
+content_of [] name = None
+content_of (entry ∷ entries) name = if bytes_eq entry.0 name then Some entry.1 else content_of entries name
+
+-- a shelf: what it holds, the numbers of the calls that are to fail, how many calls there were, those that failed, and how often a content was too long
+pub record ShelfState : Type 0 where
+  pub contents : Contents
+  pub failing : List ℕ
+  pub calls : ℕ
+  pub failures : List Failure
+  pub longs : ℕ
+
+-- a shelf that never fails: what it holds, and how often a content was too long
+pub record SureShelfState : Type 0 where
+  pub contents : Contents
+  pub longs : ℕ
+
+-- a page: its text, which puts are to fail after how many bytes, how many puts there were, and how many failed
+pub record PageState : Type 0 where
+  pub bytes : List ℕ
+  pub failing : List (ℕ × ℕ)
+  pub puts : ℕ
+  pub faults : ℕ
+
+-- the files of a system: the calls that failed, and how often a content was too long
+pub record FileState : Type 0 where
+  pub failures : List Failure
+  pub longs : ℕ
+
+-- is the shelf's next call to fail?
+abbrev pub is_failing : ShelfState → Bool
+is_failing shelf = list_any (λ call. nat_eq call shelf.calls) shelf.failing
+
+-- the shelf after one more call
+abbrev pub counted : ShelfState → ShelfState
+counted shelf = record shelf { calls = risen shelf.calls }
+
+-- the shelf after a call with that name failed
+abbrev pub failed_call : Call → List ℕ → ShelfState → ShelfState
+failed_call call name shelf = record shelf { failures = shelf.failures ++ record { call = call; name = name } ∷ [] }
+
+-- a content that may have so many bytes: Failed where there is none, Long where it has more
+abbrev pub within : ℕ → Option (List ℕ) → Result (List ℕ) FetchFault
+within limit None = Err Failed
+within limit (Some content) = if nat_le (length content) limit then Ok content else Err Long
+
+-- what a fetch answers that finds memory
+abbrev pub fetch_answer : ShelfState → List ℕ → ℕ → Result (List ℕ) FetchFault
+fetch_answer shelf name limit = if is_failing shelf then Err Failed else within limit (content_of shelf.contents name)
+
+-- what a name holds on a shelf that never fails: nothing where it isn't there
+abbrev pub content_or_empty : Contents → List ℕ → List ℕ
+content_or_empty contents name = unwrap_or (content_of contents name) []
+
+-- after how many bytes the put of that number is to fail; of two entries of one number the first counts
+abbrev pub taken_of : List (ℕ × ℕ) → ℕ → Option ℕ
+taken_of [] put = None
+taken_of (entry ∷ entries) put = if nat_eq entry.0 put then Some entry.1 else taken_of entries put
+
+-- what the names of a shelf hold
+abbrev pub shelf_holds : ShelfState → List ℕ → Option (List ℕ)
+shelf_holds shelf name = content_of shelf.contents name

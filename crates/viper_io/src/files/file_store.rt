@@ -1,0 +1,100 @@
+ghost use Rattle.std.specs.Prelude.{◌≡◌, ◌≤◌, [], false, None, length, IfOk};
+
+use super::whole::{read_whole, write_whole};
+use crate::memory::FailedCall;
+use crate::{Call, FetchFault, PlaceFault, Store};
+use std::alloc::Global;
+use std::fs;
+use std::marker::Model;
+use std::rt::Files;
+
+/// The files of a system, by their paths. It tells no content.
+#[derive(Drop)]
+pub struct FileStore<'a, R: Files> {
+    files: &'a R,
+    alloc: Global,
+    failures: Vec<FailedCall>,
+    longs: u64,
+}
+
+impl<'a, R: Files> Model for FileStore<'a, R> {
+    ghost use Rattle.viper_io.specs.Held.{FileState};
+
+    ghost Value = { FileState };
+
+    ghost view = { λ s. record { failures = s.failures.items; longs = s.longs } };
+}
+
+impl<'a, R: Files> FileStore<'a, R> {
+    /// The files of a system, of which no call failed so far.
+    pub fn new(files: &'a R, alloc: Global) -> FileStore<'a, R>
+        ensures { result ≡ record { failures = []; longs = 0 } }
+    {
+        FileStore {
+            files,
+            alloc,
+            failures: Vec::new(alloc),
+            longs: 0,
+        }
+    }
+}
+
+/// The content of a file, of at most `limit` bytes.
+fn read_file<R: Files>(
+    files: &R,
+    alloc: Global,
+    name: &str,
+    limit: u64,
+) -> Result<Vec<u8>, FetchFault>
+    ensures { IfOk result (λ v. length v.items ≤ limit) }
+{
+    match fs::open(files, name) {
+        Ok(mut file) => read_whole(&mut file, alloc, limit),
+        Err(_) => Err(FetchFault::Failed),
+    }
+}
+
+/// Makes a file hold the bytes, and says whether that went well.
+fn write_file<R: Files>(files: &R, name: &str, bytes: &[u8]) -> bool {
+    match fs::create(files, name) {
+        Ok(mut file) => write_whole(&mut file, bytes),
+        Err(_) => false,
+    }
+}
+
+impl<'a, R: Files> Store for FileStore<'a, R> {
+    ghost tells = { λ _. false };
+
+    ghost holds = { λ _ _. None };
+
+    ghost failures = { λ s. s.failures };
+
+    ghost longs = { λ s. s.longs };
+
+    /// The content of a file. It fails where the file can't be opened or read whole.
+    #[tactic(auto, using(crate::proofs::Growth::grew_none, crate::proofs::Growth::grew_one))]
+    fn fetch(&mut self, alloc: Global, name: &str, limit: u64) -> Result<Vec<u8>, FetchFault> {
+        let failed = FailedCall::new(self.alloc, Call::Fetch, name)?;
+        self.failures.reserve(1)?;
+        let answer = read_file(self.files, alloc, name, limit);
+        match answer {
+            Err(FetchFault::Failed) => self.failures.push(failed).unwrap(),
+            Err(FetchFault::Long) => self.longs = self.longs.saturating_add(1),
+            Err(FetchFault::Memory) | Ok(_) => {}
+        }
+        answer
+    }
+
+    /// Makes a file hold the bytes. It fails where the file can't be made or written whole, and
+    /// the file may then hold anything.
+    #[tactic(auto, using(crate::proofs::Growth::grew_none, crate::proofs::Growth::grew_one))]
+    fn place(&mut self, name: &str, bytes: &[u8]) -> Result<(), PlaceFault> {
+        let failed = FailedCall::new(self.alloc, Call::Place, name)?;
+        self.failures.reserve(1)?;
+        if write_file(self.files, name, bytes) {
+            return Ok(());
+        }
+        self.failures.push(failed).unwrap();
+        Err(PlaceFault::Failed)
+    }
+}

@@ -1,0 +1,50 @@
+ghost use Rattle.std.specs.Prelude.{◌≡◌, ◌≤◌, None, OnOk, IfErr};
+ghost use Rattle.viper_io.specs.Causes.{risen};
+
+use super::whole::write_whole;
+use crate::{Sink, SinkFault};
+use std::io::Write;
+use std::marker::Model;
+
+/// A sink over a writer. It tells nothing of what was put.
+#[derive(Drop)]
+pub struct OutSink<T: Write> {
+    writer: T,
+    faults: u64,
+}
+
+impl<T: Write> Model for OutSink<T> {
+    ghost use Rattle.std.specs.Prelude.{ℕ};
+
+    ghost Value = { ℕ };
+
+    ghost view = { λ s. s.faults };
+}
+
+impl<T: Write> OutSink<T> {
+    /// A sink over the writer, which failed never so far.
+    pub fn new(writer: T) -> OutSink<T>
+        ensures { result ≡ 0 }
+    {
+        OutSink { writer, faults: 0 }
+    }
+}
+
+impl<T: Write> Sink for OutSink<T> {
+    ghost put_so_far = { λ _. None };
+
+    ghost faults = { λ faults. faults };
+
+    /// Writes the bytes. It fails where a write fails or takes nothing, and some may have gone out.
+    fn put(&mut self, bytes: &[u8]) -> Result<(), SinkFault>
+        ensures faults { self.old ≤ self.new }
+        ensures after_ok { OnOk result (self.new ≡ self.old) }
+        ensures after_failed { IfErr result (λ e. (e ≡ SinkFault.Failed) × (self.new ≡ risen self.old)) }
+    {
+        if write_whole(&mut self.writer, bytes) {
+            return Ok(());
+        }
+        self.faults = self.faults.saturating_add(1);
+        Err(SinkFault::Failed)
+    }
+}

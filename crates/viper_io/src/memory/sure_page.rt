@@ -1,0 +1,48 @@
+ghost use Rattle.std.specs.Prelude.{◌≡◌, [], Some};
+
+use crate::{Sink, SinkFault};
+use std::alloc::Global;
+use std::marker::Model;
+
+/// A text in memory, of which no put fails. It tells what was put.
+#[derive(Drop)]
+pub struct SurePage {
+    bytes: Vec<u8>,
+}
+
+impl Model for SurePage {
+    ghost use Rattle.std.specs.Prelude.{ℕ, List};
+
+    ghost Value = { List ℕ };
+
+    ghost view = { λ p. p.bytes.items };
+}
+
+impl SurePage {
+    /// An empty page.
+    pub fn new(alloc: Global) -> SurePage
+        ensures { result ≡ [] }
+    {
+        SurePage {
+            bytes: Vec::new(alloc),
+        }
+    }
+
+    /// What was put.
+    pub fn bytes(&self) -> &[u8]
+        ensures { result.now ≡ self.now }
+    {
+        self.bytes.as_slice()
+    }
+}
+
+impl Sink for SurePage {
+    ghost put_so_far = { λ p. Some p };
+
+    ghost faults = { λ _. 0 };
+
+    fn put(&mut self, bytes: &[u8]) -> Result<(), SinkFault> {
+        self.bytes.extend_from_slice(bytes)?;
+        Ok(())
+    }
+}
