@@ -1,4 +1,4 @@
--- What the stores and sinks in memory hold, and what a call leaves of it.
+-- What the stores and sinks in memory hold, and what a call of theirs answers and leaves.
 use Rattle.std.specs.Prelude.{ℕ, List, [], ◌∷◌, ◌++◌, length, Bool, nat_eq, nat_le, Option, Some, None, unwrap_or, Result, Ok, Err, if◌then◌else◌}
 use Rattle.std.specs.List.{list_any}
 use Rattle.std.specs.Str.{bytes_eq}
@@ -11,12 +11,21 @@ use Rattle.viper_io.specs.declared.fault.FetchFault.TheVariants.{Failed, Long}
 abbrev pub Contents : Type 0
 Contents = List (List ℕ × List ℕ)
 
--- what a name holds
+-- what a name holds, or None where it isn't there
 abbrev pub content_of : Contents → List ℕ → Option (List ℕ)
 content_of [] name = None
 content_of (entry ∷ entries) name = if bytes_eq entry.0 name then Some entry.1 else content_of entries name
 
--- a shelf: what it holds, the numbers of the calls that are to fail, how many calls there were, those that failed, and how often a content was too long
+-- what a name holds where each name that isn't there holds the empty content
+abbrev pub content_or_empty : Contents → List ℕ → List ℕ
+content_or_empty contents name = unwrap_or (content_of contents name) []
+
+-- a shelf that never fails: what it holds, and how often a content was too long
+pub record SureShelfState : Type 0 where
+  pub contents : Contents
+  pub longs : ℕ
+
+-- a shelf: what it holds, the numbers of the calls that are to fail, how many calls there were, which of them failed, and how often a content was too long
 pub record ShelfState : Type 0 where
   pub contents : Contents
   pub failing : List ℕ
@@ -24,22 +33,9 @@ pub record ShelfState : Type 0 where
   pub failures : List Failure
   pub longs : ℕ
 
--- a shelf that never fails: what it holds, and how often a content was too long
-pub record SureShelfState : Type 0 where
-  pub contents : Contents
-  pub longs : ℕ
-
--- a page: its text, which puts are to fail after how many bytes, how many puts there were, and how many failed
-pub record PageState : Type 0 where
-  pub bytes : List ℕ
-  pub failing : List (ℕ × ℕ)
-  pub puts : ℕ
-  pub faults : ℕ
-
--- the files of a system: the calls that failed, and how often a content was too long
-pub record FileState : Type 0 where
-  pub failures : List Failure
-  pub longs : ℕ
+-- what the names of a shelf hold
+abbrev pub shelf_holds : ShelfState → List ℕ → Option (List ℕ)
+shelf_holds shelf name = content_of shelf.contents name
 
 -- is the shelf's next call to fail?
 abbrev pub is_failing : ShelfState → Bool
@@ -53,7 +49,7 @@ counted shelf = record shelf { calls = risen shelf.calls }
 abbrev pub failed_call : Call → List ℕ → ShelfState → ShelfState
 failed_call call name shelf = record shelf { failures = shelf.failures ++ record { call = call; name = name } ∷ [] }
 
--- a content that may have so many bytes: Failed where there is none, Long where it has more
+-- a content of at most so many bytes: Failed where there is none, Long where it has more
 abbrev pub within : ℕ → Option (List ℕ) → Result (List ℕ) FetchFault
 within limit None = Err Failed
 within limit (Some content) = if nat_le (length content) limit then Ok content else Err Long
@@ -62,15 +58,24 @@ within limit (Some content) = if nat_le (length content) limit then Ok content e
 abbrev pub fetch_answer : ShelfState → List ℕ → ℕ → Result (List ℕ) FetchFault
 fetch_answer shelf name limit = if is_failing shelf then Err Failed else within limit (content_of shelf.contents name)
 
--- what a name holds on a shelf that never fails: nothing where it isn't there
-abbrev pub content_or_empty : Contents → List ℕ → List ℕ
-content_or_empty contents name = unwrap_or (content_of contents name) []
+-- a page: its text, the numbers of the puts that are to fail with how many bytes each takes, how many puts there were, and how many failed
+pub record PageState : Type 0 where
+  pub bytes : List ℕ
+  pub failing : List (ℕ × ℕ)
+  pub puts : ℕ
+  pub faults : ℕ
 
--- after how many bytes the put of that number is to fail; of two entries of one number the first counts
+-- how many bytes the put of that number takes before it fails, or None where it is not to fail; of two entries of one number the first counts
 abbrev pub taken_of : List (ℕ × ℕ) → ℕ → Option ℕ
 taken_of [] put = None
 taken_of (entry ∷ entries) put = if nat_eq entry.0 put then Some entry.1 else taken_of entries put
 
--- what the names of a shelf hold
-abbrev pub shelf_holds : ShelfState → List ℕ → Option (List ℕ)
-shelf_holds shelf name = content_of shelf.contents name
+-- the files of a system: which calls failed, and how often a content was too long
+pub record FileState : Type 0 where
+  pub failures : List Failure
+  pub longs : ℕ
+
+-- a sink over a writer: the bytes that the writer holds, where it tells them, and how often it failed
+pub record OutState : Type 0 where
+  pub written : Option (List ℕ)
+  pub faults : ℕ

@@ -10,6 +10,8 @@ mod files;
 mod memory;
 mod sink;
 mod store;
+#[cfg(test)]
+mod tests;
 
 pub use fault::{Call, FetchFault, PlaceFault, SinkFault};
 pub use files::{FileStore, OutSink};

@@ -1,3 +1,4 @@
+ghost use Rattle.std.specs.Io.KnownBytes.{Appends};
 ghost use Rattle.std.specs.Prelude.{◌≡◌, ◌≤◌, None, OnOk, IfErr};
 ghost use Rattle.viper_io.specs.Causes.{risen};
 
@@ -14,17 +15,17 @@ pub struct OutSink<T: Write> {
 }
 
 impl<T: Write> Model for OutSink<T> {
-    ghost use Rattle.std.specs.Prelude.{ℕ};
+    ghost use Rattle.viper_io.specs.Held.{OutState};
 
-    ghost Value = { ℕ };
+    ghost Value = { OutState };
 
-    ghost view = { λ s. s.faults };
+    ghost view = { λ s. record { written = T.contents s.writer; faults = s.faults } };
 }
 
 impl<T: Write> OutSink<T> {
-    /// A sink over the writer, which failed never so far.
+    /// A sink over the writer, which never failed so far.
     pub fn new(writer: T) -> OutSink<T>
-        ensures { result ≡ 0 }
+        ensures { result ≡ record { written = T.contents writer; faults = 0 } }
     {
         OutSink { writer, faults: 0 }
     }
@@ -33,13 +34,14 @@ impl<T: Write> OutSink<T> {
 impl<T: Write> Sink for OutSink<T> {
     ghost put_so_far = { λ _. None };
 
-    ghost faults = { λ faults. faults };
+    ghost faults = { λ s. s.faults };
 
     /// Writes the bytes. It fails where a write fails or takes nothing, and some may have gone out.
     fn put(&mut self, bytes: &[u8]) -> Result<(), SinkFault>
-        ensures faults { self.old ≤ self.new }
-        ensures after_ok { OnOk result (self.new ≡ self.old) }
-        ensures after_failed { IfErr result (λ e. (e ≡ SinkFault.Failed) × (self.new ≡ risen self.old)) }
+        ensures faults { self.old.faults ≤ self.new.faults }
+        ensures written { OnOk result (Appends self.old.written self.new.written bytes.now) }
+        ensures after_ok { OnOk result (self.new.faults ≡ self.old.faults) }
+        ensures after_failed { IfErr result (λ e. (e ≡ SinkFault.Failed) × (self.new.faults ≡ risen self.old.faults)) }
     {
         if write_whole(&mut self.writer, bytes) {
             return Ok(());

@@ -60,15 +60,15 @@ impl Page {
     }
 
     /// Lets the put of that number, counted from 0, append the first `taken` bytes, or all where
-    /// there are fewer, and fail. Of two such entries for one put the first counts.
+    /// there are fewer, and fail. Of two entries for one put the first counts. A put that finds no
+    /// memory is counted too.
     pub fn fail_at(&mut self, call: u64, taken: u64) -> Result<(), Memory>
         ensures ok { OnOk result (self.new ≡ record self.old { failing = self.old.failing ++ (call, taken) ∷ [] }) }
         ensures err { OnErr result (self.new ≡ self.old) }
     {
-        match self.failing.push(FailingPut { put: call, taken }) {
-            Ok(()) => Ok(()),
-            Err(_) => Err(Memory),
-        }
+        self.failing
+            .push(FailingPut { put: call, taken })
+            .map_err(|_| Memory)
     }
 }
 

@@ -53,15 +53,13 @@ impl Shelf {
         self.contents.set(name, bytes).map_err(|_| Memory)
     }
 
-    /// Lets the call of that number fail, where fetch and place are counted together from 0.
+    /// Lets the call of that number fail, where fetch and place are counted together from 0. A call
+    /// that finds no memory is counted too.
     pub fn fail_at(&mut self, call: u64) -> Result<(), Memory>
         ensures ok { OnOk result (self.new ≡ record self.old { failing = self.old.failing ++ call ∷ [] }) }
         ensures err { OnErr result (self.new ≡ self.old) }
     {
-        match self.failing.push(call) {
-            Ok(()) => Ok(()),
-            Err(_) => Err(Memory),
-        }
+        self.failing.push(call).map_err(|_| Memory)
     }
 
     /// What a name holds. None exactly where the name isn't there.
