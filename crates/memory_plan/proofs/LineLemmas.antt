@@ -5,7 +5,7 @@ use Rattle.std.specs.List.{AllByRecursion}
 use Rattle.std.proofs.lemmas.List.{length-append, append-nil}
 use Rattle.std.proofs.lemmas.List.Elements.{recursion_from_All}
 use Rattle.std.proofs.lemmas.Bool.Decides.{nat_tests}
-use Rattle.std.proofs.lemmas.Option.{none-some, slice_get_within}
+use Rattle.std.proofs.lemmas.Option.{none-some, same_Some, slice_get_within, get_or_from_slice_get}
 use Rattle.std.proofs.lemmas.Bool.{cases_lt}
 use Rattle.std.proofs.lemmas.List.{nil_from_length}
 use Rattle.viper_word.proofs.Places.{within_has}
@@ -200,3 +200,18 @@ line_takes at w rest others e = ap length e ∙ length-append (image_line (at, w
 
 pub is_address : (n : ℕ) → n < 2 ^ 20 → (if nat_lt n (2 ^ 20) then Some n else None) ≡ Some n
 is_address n small = grind (arith, nat_tests)
+
+-- each word of an image is one of those that were read
+read_if : (o : Option Word) (ws : List Word) (at : ℕ) → slice_get ws at ≡ o → All ReadsLiteral (numbers ws) → IfSome o (λ w. ReadsLiteral w.0)
+read_if None ws at e all = tt
+read_if (Some w) ws at e all =
+    let there : slice_get (numbers ws) at ≡ Some w.0 = slice_get-numbers ws at w e in
+    rw (get_or_from_slice_get (numbers ws) at w.0 w.0 there) at (all at w.0 (slice_get_within (numbers ws) at w.0 there))
+  where
+    slice_get-numbers : (ws : List Word) (at : ℕ) (w : Word) → slice_get ws at ≡ Some w → slice_get (numbers ws) at ≡ Some w.0
+    slice_get-numbers [] at w e = absurd (none-some w e)
+    slice_get-numbers (v ∷ vs) zero w e = ap (λ (u : Word). Some u.0) (same_Some v w e)
+    slice_get-numbers (v ∷ vs) (suc i) w e = slice_get-numbers vs i w e
+
+pub place_read : (ws : List Word) (at : ℕ) → All ReadsLiteral (numbers ws) → IfSome (slice_get ws at) (λ w. ReadsLiteral w.0)
+place_read ws at all = read_if (slice_get ws at) ws at refl all

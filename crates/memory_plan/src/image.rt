@@ -36,6 +36,7 @@ impl Image {
         ensures word { option_map (λ w. w.0) result ≡ word_at self.now at }
         ensures inside { IfSome result (λ _. at < length self.now) }
         ensures outside { IfNone result (length self.now ≤ at) }
+        ensures read { IfSome result (λ w. ReadsLiteral w.0) }
     {
         self.words.get(at.get() as usize).copied()
     }

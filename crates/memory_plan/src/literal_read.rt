@@ -24,7 +24,7 @@ pub struct LiteralRead {
 
 impl LiteralRead {
     /// The read that a word stands for. None exactly where it is another instruction.
-    #[tactic(auto, unfolding(viper_word::specs::Fields::fields_of))]
+    #[tactic(auto, unfolding(viper_word::specs::Fields::fields_of, crate::specs::Reads::read_of))]
     pub fn of(word: Word) -> Option<LiteralRead>
         ensures { MatchOption result (ReadsLiteral word.0 → ⊥) (IsLiteralRead word.0) }
     {

@@ -1,6 +1,6 @@
-ghost use Rattle.std.specs.Prelude.{◌≡◌, ◌≢◌, ◌<◌, ◌≤◌, ◌^◌, ◌-◌, ◌+◌, ◌∷◌, [], ℕ, List, length, map, option_map, IfOk, IfErr, MatchOption};
-ghost use Rattle.memory_plan.specs.Plans.{PlanLines, code_word, is_marker};
-ghost use Rattle.memory_plan.specs.FirstForms.{any_start, code_plan, first_plan_text, IsFirstPlan};
+ghost use Rattle.std.specs.Prelude.{◌≡◌, ◌≢◌, ◌<◌, ◌≤◌, ◌^◌, ◌-◌, ◌+◌, ◌∷◌, [], ℕ, List, length, map, option_map, IfSome, IfOk, IfErr, MatchOption};
+ghost use Rattle.memory_plan.specs.Plans.{PlanLines, in_code, code_word, is_marker};
+ghost use Rattle.memory_plan.specs.FirstForms.{ReadsLiteral, any_start, code_plan, first_plan_text, IsFirstPlan};
 
 use crate::digits::address_digits;
 use crate::fault::FirstFault;
@@ -32,9 +32,17 @@ impl Model for Plan {
 impl Plan {
     /// The code word at an address. None exactly where the address isn't in code.
     pub fn code_word(&self, at: Addr) -> Option<Word>
-        ensures { option_map (λ w. w.0) result ≡ code_word self.now at }
+        ensures word { option_map (λ w. w.0) result ≡ code_word self.now at }
+        ensures read { IfSome result (λ w. ReadsLiteral w.0) }
     {
         self.image.at(at)
+    }
+
+    /// Is the address in code?
+    pub fn in_code(&self, at: Addr) -> bool
+        ensures { result ≡ in_code self.now at }
+    {
+        at <= self.image.last()
     }
 
     /// Is the address a marker?
