@@ -1,0 +1,12 @@
+pub mod Failures
+pub mod CertFields
+pub mod CertLaws
+pub mod CertLoop
+pub mod Bounds
+pub mod ReadSteps
+pub mod Nodes
+pub mod Steps
+pub mod WholeRuns
+pub mod Yes
+pub mod Done
+pub mod Stages

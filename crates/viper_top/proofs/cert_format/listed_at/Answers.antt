@@ -1,0 +1,19 @@
+use Rattle.std.proofs.Common.{◌≡◌, ◌++◌, ◌∷◌, []}
+use Rattle.std.proofs.lemmas.Result.{err_from_is_err_and}
+use Rattle.viper_top.specs.Reading.{many_at, index_at}
+use Rattle.viper_top.proofs.CertLoop.{goes_on, ends, is_done}
+use Rattle.viper_top.proofs.cert_format.listed_at.Goals as goal
+
+pub returns-in_err-item : goal.returns-in_err-item
+returns-in_err-item c =
+    let p = err_from_is_err_and c.from_residual.result c.from_residual.ensures.1 in
+    rw (p.1, p.2) (ends (index_at c.args.count) c.in_err-item.field-0.0 c.loop.found.items c.args.listed c.loop.counter c.loop.rest.now (many_at (index_at c.args.count) c.args.listed c.args.bytes.now) c.loop-test.true c.in_err-item.ensures c.loop.invariant)
+
+pub loop-preserved : goal.loop-preserved
+loop-preserved c =
+    let n = c.in_ok-item.item in
+    let e : c.push.new.self.items ≡ c.loop.found.items ++ n ∷ [] = c.in_ok-push.ensures.items in
+    rw e (goes_on (index_at c.args.count) c.loop.found.items c.args.listed c.loop.counter c.loop.rest.now n c.in_ok-item.after.now (many_at (index_at c.args.count) c.args.listed c.args.bytes.now) c.loop-test.true c.in_ok-item.ensures c.loop.invariant)
+
+pub returns : goal.returns
+returns c = is_done (index_at c.args.count) c.loop.found.items c.args.listed c.loop.counter c.loop.rest.now (many_at (index_at c.args.count) c.args.listed c.args.bytes.now) c.loop-test.false c.loop.invariant

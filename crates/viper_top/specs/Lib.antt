@@ -1,0 +1,11 @@
+pub mod Seen
+pub mod Facts
+pub mod Certificates
+pub mod Reading
+pub mod Conditions
+pub mod Verdicts
+pub mod Claims
+pub mod Texts
+pub mod CommandLine
+pub mod Answers
+pub mod Headline

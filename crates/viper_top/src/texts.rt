@@ -1,0 +1,91 @@
+ghost use Rattle.std.specs.Prelude.{◌≡◌, ◌++◌, ℕ, List, IfOk, OnOk};
+ghost use Rattle.viper_top.specs.Texts.{bound_text, marker_line, yes_text, cond_text, place_text, no_text};
+
+use crate::abs_step::Cond;
+use crate::cert_checker::{Bound, Place};
+use memory_plan::address_digits;
+use std::alloc::{AllocError, Global};
+use viper_word::Addr;
+
+fn push_bound(out: &mut Vec<u8>, alloc: Global, bound: Bound) -> Result<(), AllocError>
+    ensures { OnOk result (out.new.items ≡ out.old.items ++ bound_text bound) }
+{
+    match bound {
+        Bound::Within(number) => {
+            let number = number.to_string(alloc)?;
+            out.extend_from_slice(b" within ")?;
+            out.extend_from_slice(number.as_bytes())?;
+            out.extend_from_slice(b"\n")
+        }
+        Bound::Unreached => out.extend_from_slice(b" unreached\n"),
+    }
+}
+
+/// Appends the line of a marker.
+#[tactic(auto, unfolding(crate::specs::Texts::marker_line))]
+fn push_marker(
+    out: &mut Vec<u8>,
+    alloc: Global,
+    marker: Addr,
+    bound: Bound,
+) -> Result<(), AllocError>
+    ensures { OnOk result (out.new.items ≡ out.old.items ++ marker_line (marker, bound)) }
+{
+    out.extend_from_slice(b"marker ")?;
+    out.extend_from_slice(&address_digits(marker))?;
+    push_bound(out, alloc, bound)
+}
+
+/// The text of a yes: a line `yes`, and a line for each marker (README.md, "Texts").
+#[tactic(auto, unfolding(crate::specs::Texts::yes_text))]
+pub fn yes_text(alloc: Global, bounds: &[(Addr, Bound)]) -> Result<Vec<u8>, AllocError>
+    ensures { IfOk result (λ v. v.items ≡ yes_text bounds.now) }
+{
+    let mut out = Vec::from_slice(alloc, b"yes\n")?;
+    for (marker, bound) in bounds {
+        push_marker(&mut out, alloc, *marker, *bound)?;
+    }
+    Ok(out)
+}
+
+fn cond_text(cond: Cond) -> &'static str
+    ensures { result.now ≡ cond_text cond }
+{
+    match cond {
+        Cond::H2 => "H2",
+        Cond::C1 => "C1",
+        Cond::C5 => "C5",
+        Cond::C8 => "C8",
+        Cond::C9 => "C9",
+        Cond::C10 => "C10",
+        Cond::C11 => "C11",
+    }
+}
+
+fn push_place(out: &mut Vec<u8>, alloc: Global, place: Place) -> Result<(), AllocError>
+    ensures { OnOk result (out.new.items ≡ out.old.items ++ place_text place) }
+{
+    let (kind, number) = match place {
+        Place::Start(number) => ("start ", number),
+        Place::Node(number) => ("node ", number),
+    };
+    let number = number.to_string(alloc)?;
+    out.extend_from_slice(kind.as_bytes())?;
+    out.extend_from_slice(number.as_bytes())
+}
+
+/// The text of a no: the first condition that fails, its place and the address there (README.md,
+/// "Texts").
+#[tactic(auto, unfolding(crate::specs::Texts::no_text))]
+pub fn no_text(alloc: Global, place: Place, addr: Addr, cond: Cond) -> Result<Vec<u8>, AllocError>
+    ensures { IfOk result (λ v. v.items ≡ no_text (record { place = place; address = addr; cond = cond })) }
+{
+    let mut out = Vec::from_slice(alloc, b"no ")?;
+    push_place(&mut out, alloc, place)?;
+    out.extend_from_slice(b" address ")?;
+    out.extend_from_slice(&address_digits(addr))?;
+    out.extend_from_slice(b" condition ")?;
+    out.extend_from_slice(cond_text(cond).as_bytes())?;
+    out.extend_from_slice(b"\n")?;
+    Ok(out)
+}

@@ -1,0 +1,73 @@
+ghost use Rattle.std.specs.Prelude.{◌≡◌, ◌≢◌, ◌≤◌, ◌⊎◌, ℕ, List, map, Some, None, Option, Bool, OnOk, OnErr, codes};
+ghost use Rattle.viper_io.specs.Causes.{Failure, Rose, SameContents, Wrote};
+ghost use Rattle.viper_top.specs.CommandLine.{Names, names_of, row_names};
+ghost use Rattle.viper_top.specs.Answers.{Said, answer_view, Answered, EndsAnswered, AnswersRow, RowFailed};
+ghost use Rattle.viper_top.specs.Headline.{Headline};
+
+use crate::answers::{Stop, answer_row};
+use crate::command_line::row_of;
+use std::alloc::Global;
+use viper_io::{Sink, SinkFault, Store};
+
+/// How a command ends, with the number that the program ends with.
+#[derive(Clone, Copy, Debug, PartialEq, Eq)]
+pub enum Status {
+    /// The work is done: a yes.
+    Done = 0,
+    /// A no, with its cause.
+    Refused = 1,
+    /// The words are no command.
+    Usage = 2,
+    /// A content is too long, or isn't of its form.
+    Input = 3,
+    /// A fetch or a put failed.
+    Outside = 4,
+    /// An allocation found no memory.
+    Memory = 5,
+}
+
+/// Puts the text of a status.
+fn put<K: Sink>(out: &mut K, status: Status, text: &[u8]) -> Status
+    requires { EndsAnswered status ⊎ (status ≡ Status.Usage) }
+    ensures put { EndsAnswered result ⊎ (result ≡ Status.Usage) → (result ≡ status) × Wrote (K.put_so_far out.old) text.now (K.put_so_far out.new) }
+    ensures outside { result ≡ Status.Outside → Rose (K.faults out.old) (K.faults out.new) }
+    ensures memory { result ≡ Status.Memory → K.put_so_far out.new ≡ K.put_so_far out.old }
+{
+    match out.put(text) {
+        Ok(()) => status,
+        Err(SinkFault::Failed) => Status::Outside,
+        Err(SinkFault::Memory) => Status::Memory,
+    }
+}
+
+/// Does what the words of the command line say, which are those after the program's name: so far
+/// `check IMAGE PLAN CERT`. Nothing is placed. The text goes to the sink in one put (README.md,
+/// "Statuses and texts").
+pub fn viper_main<S: Store, K: Sink>(
+    alloc: Global,
+    words: &[&str],
+    store: &mut S,
+    out: &mut K,
+) -> Status
+    // Done: every fair run is safe, and from each marker the next is met within the number put for it.
+    ensures done { result ≡ Status.Done → Headline (S.tells store.old) (S.holds store.old) (names_of (map (λ w. w.now) words.now)) (K.put_so_far out.old) (K.put_so_far out.new) }
+    // Done, Refused and Input: the answer for the contents, with its text.
+    ensures answered { EndsAnswered result → AnswersRow (S.tells store.old) (S.holds store.old) (names_of (map (λ w. w.now) words.now)) (S.longs store.old) (S.longs store.new) result (K.put_so_far out.old) (K.put_so_far out.new) }
+    // Usage: no row has these words.
+    ensures usage { result ≡ Status.Usage → (names_of (map (λ w. w.now) words.now) ≡ None) × Wrote (K.put_so_far out.old) (codes "usage\n") (K.put_so_far out.new) }
+    // Outside: a fetch of one of the row's names failed, or the put.
+    ensures outside { result ≡ Status.Outside → RowFailed (names_of (map (λ w. w.now) words.now)) (S.failures store.old) (S.failures store.new) ⊎ Rose (K.faults out.old) (K.faults out.new) }
+    // After Memory nothing was put.
+    ensures memory { result ≡ Status.Memory → K.put_so_far out.new ≡ K.put_so_far out.old }
+    // Nothing is placed.
+    ensures same { SameContents S.holds store.old store.new }
+{
+    let Some(row) = row_of(words) else {
+        return put(out, Status::Usage, b"usage\n");
+    };
+    match answer_row(alloc, store, &row) {
+        Ok(answer) => put(out, answer.status, &answer.text),
+        Err(Stop::Outside) => Status::Outside,
+        Err(Stop::Memory) => Status::Memory,
+    }
+}
