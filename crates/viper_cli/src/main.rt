@@ -1,0 +1,39 @@
+//! The program viper: its arguments to `viper_main`, over files and standard output.
+#![tactic(auto)]
+
+use std::alloc::{AllocError, Global};
+use std::process::ExitCode;
+use std::{env, io};
+use viper_io::{FileStore, OutSink};
+use viper_top::{Status, viper_main};
+
+/// The words after the program's name.
+fn words_of<'a>(alloc: Global, args: &'a [String]) -> Result<Vec<&'a str>, AllocError> {
+    let mut words = Vec::new(alloc);
+    for arg in args.iter().skip(1) {
+        words.push(arg.as_str())?;
+    }
+    Ok(words)
+}
+
+fn run(rt: &HostRuntime, alloc: Global, args: &[String]) -> Status {
+    let Ok(words) = words_of(alloc, args) else {
+        return Status::Memory;
+    };
+    let mut store = FileStore::new(rt, alloc);
+    let mut out = OutSink::new(io::writer(rt));
+    viper_main(alloc, words.as_slice(), &mut store, &mut out)
+}
+
+/// Ends with the number of the status: with 4 where the arguments can't be read, and with 5 where
+/// there is no memory for them.
+fn main(rt: HostRuntime) -> ExitCode {
+    let alloc = rt.alloc();
+    let Ok(args) = env::args(&rt) else {
+        return ExitCode::from(Status::Outside as u8);
+    };
+    let Ok(args) = args.collect::<Vec<String>>(alloc) else {
+        return ExitCode::from(Status::Memory as u8);
+    };
+    ExitCode::from(run(&rt, alloc, &args) as u8)
+}
