@@ -203,11 +203,11 @@ fn first_start(cert: &Cert, starts: &[Start]) -> Option<Failure>
 }
 
 /// The first node at which a condition fails.
-fn first_node(plan: &Plan, nodes: &[Node]) -> Option<Failure>
-    ensures { option_map (λ f. record { place = f.place; address = f.addr; cond = f.cond }) result ≡ first_node plan.now (nodes_view nodes.now) 0 (nodes_view nodes.now) }
+fn first_node(plan: &Plan, cert: &Cert) -> Option<Failure>
+    ensures { option_map (λ f. record { place = f.place; address = f.addr; cond = f.cond }) result ≡ first_node plan.now (cert_view cert.now).nodes 0 (cert_view cert.now).nodes }
 {
-    for (i, node) in nodes.iter().enumerate() {
-        if let Some(cond) = check_node(plan, nodes, node) {
+    for (i, node) in cert.nodes.iter().enumerate() {
+        if let Some(cond) = check_node(plan, &cert.nodes, node) {
             return Some(Failure {
                 place: Place::Node(i as u64),
                 addr: node.addr,
@@ -254,7 +254,7 @@ pub fn check(alloc: Global, plan: &Plan, cert: &Cert) -> Result<Verdict, AllocEr
     let bounds = bounds(alloc, plan.markers(), &cert.nodes)?;
     let failure = match first_start(cert, plan.starts()) {
         Some(failure) => Some(failure),
-        None => first_node(plan, &cert.nodes),
+        None => first_node(plan, cert),
     };
     match failure {
         None => Ok(Verdict::Yes(bounds)),
