@@ -4,7 +4,6 @@ use Rattle.std.specs.List.{AllByRecursion}
 use Rattle.std.proofs.lemmas.List.Elements.{recursion_from_All}
 use Rattle.std.proofs.lemmas.Option.{none-some, same_Some}
 use Rattle.viper_word.proofs.Tests.{chosen}
-use Rattle.viper_io.specs.Causes.{Wrote}
 use Rattle.memory_plan.specs.Plans.{PlanLines, word_at}
 use Rattle.memory_plan.specs.FirstForms.{ReadsLiteral, words_from, IsFirstImage, IsFirstPlan}
 use Rattle.viper_top.specs.declared.unread.Unread.{Unread}
@@ -17,8 +16,8 @@ use Rattle.viper_top.specs.Verdicts.{Refusal, verdict_of}
 use Rattle.viper_top.specs.Claims.{OnlyReads}
 use Rattle.viper_top.specs.Texts.{yes_text}
 use Rattle.viper_top.specs.CommandLine.{Names}
-use Rattle.viper_top.specs.Answers.{Said, verdict_answer, cert_answer, plan_answer, answer_of, IsContent, Reads, IsReadAs, Answered, Answers, EndsAnswered, image_limit, plan_limit, cert_limit}
-use Rattle.viper_top.specs.Headline.{Verified}
+use Rattle.viper_top.specs.Answers.{Said, verdict_answer, cert_answer, plan_answer, answer_of, IsContent, Reads, IsReadAs, Answered, Answers, AnswersRow, EndsAnswered, image_limit, plan_limit, cert_limit}
+use Rattle.viper_top.specs.Headline.{Verified, Headline}
 use Rattle.viper_top.proofs.WholeRuns.{local_suffices}
 use Rattle.viper_top.proofs.Yes.{yes_local}
 
@@ -67,17 +66,17 @@ answer_done (Ok words) (Ok lines) (Ok c) h = verdict_done words lines c (verdict
 
 -- ---- what was read, and what the name held
 
-record Found {V : Type 0} (IsOf : List ℕ → V → Type 0) (tells : Bool) (content : Option (List ℕ)) (v : V) : Type 0 where
-  bytes : List ℕ
-  told : tells ≡ true → content ≡ Some bytes
-  is : IsOf bytes v
+pub record Found {V : Type 0} (IsOf : List ℕ → V → Type 0) (tells : Bool) (content : Option (List ℕ)) (v : V) : Type 0 where
+  pub bytes : List ℕ
+  pub told : tells ≡ true → content ≡ Some bytes
+  pub is : IsOf bytes v
 
 found_if : {V : Type 0} (IsOf : List ℕ → V → Type 0) (tells : Bool) (limit : ℕ) (content : Option (List ℕ)) (o : Option (List ℕ)) (read : Result V Unread) (v : V)
     → (tells ≡ true → IsContent limit content o) → Reads IsOf o read → read ≡ Ok v → Found IsOf tells content v
 found_if {V} IsOf tells limit content None read v told is e = let other : Ok v ≡ Err Long = sym e ∙ is in absurd (cc (other))
 found_if {V} IsOf tells limit content (Some bytes) read v told is e = record { bytes = bytes; told = λ t. (told t).0; is = subst (λ (r : Result V Unread). Reads IsOf (Some bytes) r) e is }
 
-found : {V : Type 0} (IsOf : List ℕ → V → Type 0) (tells : Bool) (limit : ℕ) (content : Option (List ℕ)) (before now : ℕ) (read : Result V Unread) (v : V)
+pub found : {V : Type 0} (IsOf : List ℕ → V → Type 0) (tells : Bool) (limit : ℕ) (content : Option (List ℕ)) (before now : ℕ) (read : Result V Unread) (v : V)
     → IsReadAs IsOf tells limit content before now read → read ≡ Ok v → Found IsOf tells content v
 found IsOf tells limit content before now read v r e = found_if IsOf tells limit content r.bytes read v r.told r.is e
 
@@ -93,27 +92,28 @@ answers_done tells holds names b n before now a =
     let cert = found IsCertificate tells cert_limit (holds names.cert) b n an.cert y.certificate (an.cert_read y.words y.lines y.image_is y.plan_is) y.cert_is in
     let local = yes_local y.lines y.certificate y.bounds y.verdict in
     record {
-      image_bytes = image.bytes;
-      plan_bytes = plan.bytes;
-      cert_bytes = cert.bytes;
-      image_told = image.told;
-      plan_told = plan.told;
-      cert_told = cert.told;
       image = y.words;
       plan = y.lines;
       cert = y.certificate;
-      image_is = image.is;
-      plan_is = plan.is;
-      cert_is = cert.is;
+      read = record {
+        image_bytes = image.bytes;
+        plan_bytes = plan.bytes;
+        cert_bytes = cert.bytes;
+        image_told = image.told;
+        plan_told = plan.told;
+        cert_told = cert.told;
+        image_is = image.is;
+        plan_is = plan.is;
+        cert_is = cert.is;
+      };
       local = local.0;
       runs = local_suffices y.lines y.certificate (only_reads image.bytes y.words plan.bytes y.lines image.is plan.is) local.0;
       put = rw (ap (λ (x : Said). x.text) an.is ∙ y.text_is ∙ ap yes_text (sym local.1)) at a.put;
     }
 
-pub row_put_done : (tells : Bool) (holds : List ℕ → Option (List ℕ)) (names : Names) (b n : ℕ) (a : Said) (ends : Status) (before now : Option (List ℕ))
-    → Answered tells holds names b n a → ends ≡ a.status → Wrote before a.text now → ends ≡ Done → Verified tells holds names before now
-row_put_done tells holds names b n a ends before now an same put done =
-    answers_done tells holds names b n before now (record { answer = a; answered = an; status = sym done ∙ same; put = put })
+pub row_done : (tells : Bool) (holds : List ℕ → Option (List ℕ)) (row : Option Names) (b n : ℕ) (ends : Status) (before now : Option (List ℕ)) → ends ≡ Done → AnswersRow tells holds row b n ends before now → Headline tells holds row before now
+row_done tells holds None b n ends before now e a = absurd a
+row_done tells holds (Some names) b n ends before now e a = answers_done tells holds names b n before now (subst (λ (s : Status). Answers tells holds names b n s before now) e a)
 
 -- ---- no answer is Usage, Outside or Memory
 

@@ -9,4 +9,6 @@ pub mod Steps
 pub mod WholeRuns
 pub mod Yes
 pub mod Done
+pub mod Unique
+pub mod Endings
 pub mod Stages

@@ -16,4 +16,4 @@ mod texts;
 mod top;
 mod unread;
 
-pub use top::{Status, viper_main};
+pub use top::{Status, local_conditions_suffice, sure_main, viper_main, yes_where_local};

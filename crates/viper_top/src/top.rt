@@ -1,13 +1,17 @@
-ghost use Rattle.std.specs.Prelude.{◌≡◌, ◌≢◌, ◌≤◌, ◌⊎◌, ℕ, List, map, Some, None, Option, Bool, OnOk, OnErr, codes};
+ghost use Rattle.std.specs.Prelude.{◌≡◌, ◌≢◌, ◌≤◌, ◌⊎◌, ℕ, List, map, Some, None, Option, Bool, take, codes};
 ghost use Rattle.viper_io.specs.Causes.{Failure, Rose, SameContents, Wrote};
 ghost use Rattle.viper_top.specs.CommandLine.{Names, names_of, row_names};
-ghost use Rattle.viper_top.specs.Answers.{Said, answer_view, Answered, EndsAnswered, AnswersRow, RowFailed};
-ghost use Rattle.viper_top.specs.Headline.{Headline};
+ghost use Rattle.viper_top.specs.Answers.{Said, answer_view, verdict_answer, Answered, EndsAnswered, AnswersRow, RowFailed};
+ghost use Rattle.memory_plan.specs.Plans.{PlanLines};
+ghost use Rattle.viper_top.specs.Certificates.{Certificate};
+ghost use Rattle.viper_top.specs.Verdicts.{verdict_of};
+ghost use Rattle.viper_top.specs.Claims.{LocalSuffices, YesWhereLocal};
+ghost use Rattle.viper_top.specs.Headline.{Headline, DeclinedRow, LeftFront, AreGiven, IsSaid};
 
 use crate::answers::{Stop, answer_row};
 use crate::command_line::row_of;
 use std::alloc::Global;
-use viper_io::{Sink, SinkFault, Store};
+use viper_io::{Sink, SinkFault, Store, SurePage, SureShelf};
 
 /// How a command ends, with the number that the program ends with.
 #[derive(Clone, Copy, Debug, PartialEq, Eq)]
@@ -31,12 +35,37 @@ fn put<K: Sink>(out: &mut K, status: Status, text: &[u8]) -> Status
     requires { EndsAnswered status ⊎ (status ≡ Status.Usage) }
     ensures put { EndsAnswered result ⊎ (result ≡ Status.Usage) → (result ≡ status) × Wrote (K.put_so_far out.old) text.now (K.put_so_far out.new) }
     ensures outside { result ≡ Status.Outside → Rose (K.faults out.old) (K.faults out.new) }
+    ensures front { result ≡ Status.Outside → ((n : ℕ) × Wrote (K.put_so_far out.old) (take n text.now) (K.put_so_far out.new)) }
     ensures memory { result ≡ Status.Memory → K.put_so_far out.new ≡ K.put_so_far out.old }
 {
     match out.put(text) {
         Ok(()) => status,
         Err(SinkFault::Failed) => Status::Outside,
         Err(SinkFault::Memory) => Status::Memory,
+    }
+}
+
+/// Answers the words, and puts the text of the answer.
+fn answer_words<S: Store, K: Sink>(
+    alloc: Global,
+    words: &[&str],
+    store: &mut S,
+    out: &mut K,
+) -> Status
+    ensures answered { EndsAnswered result → AnswersRow (S.tells store.old) (S.holds store.old) (names_of (map (λ w. w.now) words.now)) (S.longs store.old) (S.longs store.new) result (K.put_so_far out.old) (K.put_so_far out.new) }
+    ensures usage { result ≡ Status.Usage → (names_of (map (λ w. w.now) words.now) ≡ None) × Wrote (K.put_so_far out.old) (codes "usage\n") (K.put_so_far out.new) }
+    ensures outside { result ≡ Status.Outside → RowFailed (names_of (map (λ w. w.now) words.now)) (S.failures store.old) (S.failures store.new) ⊎ Rose (K.faults out.old) (K.faults out.new) }
+    ensures outside_put { result ≡ Status.Outside → (K.put_so_far out.new ≡ K.put_so_far out.old) ⊎ LeftFront (S.tells store.old) (S.holds store.old) (names_of (map (λ w. w.now) words.now)) (S.longs store.old) (S.longs store.new) (K.faults out.old) (K.faults out.new) (K.put_so_far out.old) (K.put_so_far out.new) }
+    ensures memory { result ≡ Status.Memory → K.put_so_far out.new ≡ K.put_so_far out.old }
+    ensures same { SameContents S.holds store.old store.new }
+{
+    let Some(row) = row_of(words) else {
+        return put(out, Status::Usage, b"usage\n");
+    };
+    match answer_row(alloc, store, &row) {
+        Ok(answer) => put(out, answer.status, &answer.text),
+        Err(Stop::Outside) => Status::Outside,
+        Err(Stop::Memory) => Status::Memory,
     }
 }
 
@@ -51,23 +80,42 @@ pub fn viper_main<S: Store, K: Sink>(
 ) -> Status
     // Done: every fair run is safe, and from each marker the next is met within the number put for it.
     ensures done { result ≡ Status.Done → Headline (S.tells store.old) (S.holds store.old) (names_of (map (λ w. w.now) words.now)) (K.put_so_far out.old) (K.put_so_far out.new) }
-    // Done, Refused and Input: the answer for the contents, with its text.
+    // Refused: the first local condition that fails was put.
+    ensures refused { result ≡ Status.Refused → DeclinedRow (S.tells store.old) (S.holds store.old) (names_of (map (λ w. w.now) words.now)) (K.put_so_far out.old) (K.put_so_far out.new) }
+    // Done, Refused and Input: the answer for what the contents are read as, with its text.
     ensures answered { EndsAnswered result → AnswersRow (S.tells store.old) (S.holds store.old) (names_of (map (λ w. w.now) words.now)) (S.longs store.old) (S.longs store.new) result (K.put_so_far out.old) (K.put_so_far out.new) }
     // Usage: no row has these words.
     ensures usage { result ≡ Status.Usage → (names_of (map (λ w. w.now) words.now) ≡ None) × Wrote (K.put_so_far out.old) (codes "usage\n") (K.put_so_far out.new) }
     // Outside: a fetch of one of the row's names failed, or the put.
     ensures outside { result ≡ Status.Outside → RowFailed (names_of (map (λ w. w.now) words.now)) (S.failures store.old) (S.failures store.new) ⊎ Rose (K.faults out.old) (K.faults out.new) }
+    // After it nothing was put, but for the first bytes of a text where the put failed.
+    ensures outside_put { result ≡ Status.Outside → (K.put_so_far out.new ≡ K.put_so_far out.old) ⊎ LeftFront (S.tells store.old) (S.holds store.old) (names_of (map (λ w. w.now) words.now)) (S.longs store.old) (S.longs store.new) (K.faults out.old) (K.faults out.new) (K.put_so_far out.old) (K.put_so_far out.new) }
     // After Memory nothing was put.
     ensures memory { result ≡ Status.Memory → K.put_so_far out.new ≡ K.put_so_far out.old }
+    // Contents of their forms and limits, and no failure: the verdict, or want of memory.
+    ensures complete { (names : Names) (image : List (ℕ × ℕ)) (plan : PlanLines) (cert : Certificate) → names_of (map (λ w. w.now) words.now) ≡ Some names
+        → AreGiven (S.tells store.old) (S.holds store.old) names image plan cert → S.failures store.new ≡ S.failures store.old → (Rose (K.faults out.old) (K.faults out.new) → ⊥)
+        → result ≢ Status.Memory → IsSaid (verdict_answer (verdict_of plan cert)) result (K.put_so_far out.old) (K.put_so_far out.new) }
     // Nothing is placed.
     ensures same { SameContents S.holds store.old store.new }
 {
-    let Some(row) = row_of(words) else {
-        return put(out, Status::Usage, b"usage\n");
-    };
-    match answer_row(alloc, store, &row) {
-        Ok(answer) => put(out, answer.status, &answer.text),
-        Err(Stop::Outside) => Status::Outside,
-        Err(Stop::Memory) => Status::Memory,
-    }
+    answer_words(alloc, words, store, out)
 }
+
+/// Over a shelf and a page that never fail Outside never comes.
+pub fn sure_main(alloc: Global, words: &[&str], store: &mut SureShelf, out: &mut SurePage) -> Status
+    ensures { result ≢ Status.Outside }
+{
+    viper_main(alloc, words, store, out)
+}
+
+/// Local conditions suffice: where they hold of a plan and a certificate, every fair run of every
+/// length is safe, and each marker is bounded, or unreached, as its bound says.
+pub fn local_conditions_suffice()
+    ensures { LocalSuffices }
+{}
+
+/// A yes, with these bounds, comes wherever the local conditions hold.
+pub fn yes_where_local()
+    ensures { YesWhereLocal }
+{}
