@@ -1,6 +1,9 @@
 //! The program viper: its arguments to `viper_main`, over files and standard output.
 #![tactic(auto)]
 
+#[cfg(test)]
+mod tests;
+
 use std::alloc::{AllocError, Global};
 use std::process::ExitCode;
 use std::{env, io};
