@@ -36,7 +36,7 @@ fn push_marker(
     push_bound(out, alloc, bound)
 }
 
-/// The text of a yes: a line `yes`, and a line for each marker (README.md, "Texts").
+/// The text of a yes: a line `yes`, and a line for each marker (README.md, "Statuses and texts").
 #[tactic(auto, unfolding(crate::specs::Texts::yes_text))]
 pub fn yes_text(alloc: Global, bounds: &[(Addr, Bound)]) -> Result<Vec<u8>, AllocError>
     ensures { IfOk result (λ v. v.items ≡ yes_text bounds.now) }
@@ -75,7 +75,7 @@ fn push_place(out: &mut Vec<u8>, alloc: Global, place: Place) -> Result<(), Allo
 }
 
 /// The text of a no: the first condition that fails, its place and the address there (README.md,
-/// "Texts").
+/// "Statuses and texts").
 #[tactic(auto, unfolding(crate::specs::Texts::no_text))]
 pub fn no_text(alloc: Global, place: Place, addr: Addr, cond: Cond) -> Result<Vec<u8>, AllocError>
     ensures { IfOk result (λ v. v.items ≡ no_text (record { place = place; address = addr; cond = cond })) }
