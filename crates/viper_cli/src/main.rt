@@ -28,15 +28,29 @@ fn run(rt: &HostRuntime, alloc: Global, args: &[String]) -> Status {
     viper_main(alloc, words.as_slice(), &mut store, &mut out)
 }
 
+/// The status where the arguments weren't read: Memory where there was none for them, else Outside.
+fn unread_arguments(error: &io::Error) -> Status {
+    if error.kind() == io::ErrorKind::OutOfMemory {
+        Status::Memory
+    } else {
+        Status::Outside
+    }
+}
+
+/// Reads the arguments, and runs them.
+fn run_arguments(rt: &HostRuntime) -> Status {
+    let alloc = rt.alloc();
+    match env::args(rt) {
+        Err(error) => unread_arguments(&error),
+        Ok(args) => match args.collect::<Vec<String>>(alloc) {
+            Err(_) => Status::Memory,
+            Ok(args) => run(rt, alloc, &args),
+        },
+    }
+}
+
 /// Ends with the number of the status: with 4 where the arguments can't be read, and with 5 where
 /// there is no memory for them.
 fn main(rt: HostRuntime) -> ExitCode {
-    let alloc = rt.alloc();
-    let Ok(args) = env::args(&rt) else {
-        return ExitCode::from(Status::Outside as u8);
-    };
-    let Ok(args) = args.collect::<Vec<String>>(alloc) else {
-        return ExitCode::from(Status::Memory as u8);
-    };
-    ExitCode::from(run(&rt, alloc, &args) as u8)
+    ExitCode::from(run_arguments(&rt) as u8)
 }

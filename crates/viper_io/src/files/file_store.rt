@@ -5,6 +5,7 @@ use crate::memory::FailedCall;
 use crate::{Call, FetchFault, PlaceFault, Store};
 use std::alloc::Global;
 use std::fs;
+use std::io;
 use std::marker::Model;
 use std::rt::Files;
 
@@ -39,6 +40,15 @@ impl<'a, R: Files> FileStore<'a, R> {
     }
 }
 
+/// Why a call of the system failed.
+fn fetch_fault(error: &io::Error) -> FetchFault {
+    if error.kind() == io::ErrorKind::OutOfMemory {
+        FetchFault::Memory
+    } else {
+        FetchFault::Failed
+    }
+}
+
 /// The content of a file, of at most `limit` bytes.
 fn read_file<R: Files>(
     files: &R,
@@ -50,7 +60,7 @@ fn read_file<R: Files>(
 {
     match fs::open(files, name) {
         Ok(mut file) => read_whole(&mut file, alloc, limit),
-        Err(_) => Err(FetchFault::Failed),
+        Err(error) => Err(fetch_fault(&error)),
     }
 }
 
