@@ -1,6 +1,6 @@
-ghost use Rattle.std.specs.Prelude.{◌≡◌, ◌<◌, ◌^◌, ◌-◌, not, ◌&&◌, false, IfOk, IfErr, OnOk, OnErr, Ok, Err, Option};
-ghost use Rattle.viper_word.specs.Fields.{is_illegal, is_shift, has_address, is_jump};
-ghost use Rattle.viper_word.specs.Machine.{Computed as Outcome, current, register, address, is_lawful, operand, is_skipped, written, finished, performed, executed, step, halted, next};
+ghost use Rattle.std.specs.Prelude.{◌≡◌, ◌<◌, ◌^◌, ◌-◌, not, ◌&&◌, nat_lt, true, false, IfOk, IfErr, OnOk, OnErr, Ok, Err, Option};
+ghost use Rattle.viper_word.specs.Fields.{is_illegal, is_function, is_shift, has_address, is_jump};
+ghost use Rattle.viper_word.specs.Machine.{Computed as Outcome, current, register, address, is_lawful, operand, is_skipped, written, finished, computed, performed, executed, step, halted, next};
 ghost use Rattle.viper_next.specs.Effects.{effect_at, effect_of, effect_of_step};
 
 use super::{LAST, Machine};
@@ -54,5 +54,110 @@ impl Machine {
         } else {
             Word(self.memory[self.address(i) as usize])
         }
+    }
+
+    /// What the function of a legal instruction comes to. None exactly where its operation stops.
+    #[tactic(auto, using(crate::proofs::FunctionLemmas::legal_function, crate::proofs::FunctionLemmas::computed_alike))]
+    fn outcome(&self, i: Fields, answer: Word) -> Option<Computed>
+        requires function { is_function i ≡ true }
+        requires legal { is_illegal i ≡ false }
+        requires lawful { (has_address i && not (is_lawful (address i self.now))) ≡ false }
+        ensures { result ≡ computed i (register self.now i.r) (operand i self.now answer.0) self.now.b }
+    {
+        compute(i, self.register(i.r), self.operand(i, answer), self.b)
+    }
+
+    /// Writes a result and B, the link of a CALL into Y, and P.
+    #[tactic(auto, unfolding(viper_word::specs::Machine::written))]
+    fn write(&mut self, i: Fields, computed: Computed)
+        requires goes_on { self.old.p < 2 ^ 20 - 1 }
+        requires lawful { (is_jump i && not (is_lawful computed.value)) ≡ false }
+        requires function { is_function i ≡ true }
+        ensures { self.new ≡ written i self.old computed }
+    {
+        let after = self.p.next();
+        if i.f == 1 {
+            self.y = Word(after.get());
+        }
+        self.b = computed.b;
+        self.p = after;
+        match i.d {
+            0 => self.a = computed.value,
+            1 => self.x = computed.value,
+            2 => self.y = computed.value,
+            _ => self.p = Addr::new(computed.value.0).unwrap(),
+        }
+    }
+
+    /// Writes what a function came to, unless its operation stops or the target of a jump isn't
+    /// lawful.
+    #[tactic(auto, unfolding(viper_word::specs::Machine::finished))]
+    fn finish(&mut self, i: Fields, computed: Option<Computed>) -> Result<(), Cause>
+        requires goes_on { self.old.p < 2 ^ 20 - 1 }
+        requires function { is_function i ≡ true }
+        ensures done { OnOk result (finished i self.old computed ≡ Ok self.new) }
+        ensures stops { IfErr result (λ cause. finished i self.old computed ≡ Err cause) }
+        ensures kept { OnErr result (self.new ≡ self.old) }
+    {
+        let Some(computed) = computed else {
+            return Err(Cause::Overflow);
+        };
+        if i.d >= 3 && Addr::new(computed.value.0).is_none() {
+            return Err(Cause::Target);
+        }
+        self.write(i, computed);
+        Ok(())
+    }
+
+    /// Performs an instruction that is legal, isn't skipped, and has no unlawful address.
+    #[tactic(auto, unfolding(viper_word::specs::Machine::performed, crate::specs::Effects::effect_at))]
+    fn perform(&mut self, i: Fields, answer: Word) -> Result<Effect, Cause>
+        requires goes_on { self.old.p < 2 ^ 20 - 1 }
+        requires legal { is_illegal i ≡ false }
+        requires lawful { (has_address i && not (is_lawful (address i self.old))) ≡ false }
+        ensures done { OnOk result (performed i self.old answer.0 ≡ Ok self.new) }
+        ensures effect { IfOk result (λ e. e ≡ effect_at i self.old) }
+        ensures stops { IfErr result (λ cause. performed i self.old answer.0 ≡ Err cause) }
+        ensures kept { OnErr result (self.new ≡ self.old) }
+    {
+        if i.c {
+            self.b = compared(i, self.register(i.r), self.operand(i, answer), self.b);
+            self.p = self.p.next();
+            return Ok(Effect::Quiet);
+        }
+        if i.d < 6 {
+            self.finish(i, self.outcome(i, answer))?;
+            return Ok(Effect::Quiet);
+        }
+        let at = Addr::new(self.address(i)).unwrap();
+        let word = self.register(i.r);
+        self.p = self.p.next();
+        if i.d == 6 {
+            return Ok(Effect::Out(at, word));
+        }
+        self.load(at, word);
+        Ok(Effect::Wrote(at, word))
+    }
+
+    /// Performs the instruction, unless it is illegal, is skipped, or has an unlawful address.
+    #[tactic(auto, unfolding(viper_word::specs::Machine::executed, crate::specs::Effects::effect_at))]
+    fn execute(&mut self, i: Fields, answer: Word) -> Result<Effect, Cause>
+        requires goes_on { self.old.p < 2 ^ 20 - 1 }
+        ensures done { OnOk result (executed i self.old answer.0 ≡ Ok self.new) }
+        ensures effect { IfOk result (λ e. e ≡ effect_at i self.old) }
+        ensures stops { IfErr result (λ cause. executed i self.old answer.0 ≡ Err cause) }
+        ensures kept { OnErr result (self.new ≡ self.old) }
+    {
+        if !legal(i) {
+            return Err(Cause::Illegal);
+        }
+        if is_skipped(i, self.b) {
+            self.p = self.p.next();
+            return Ok(Effect::Quiet);
+        }
+        if has_address(i) && Addr::new(self.address(i)).is_none() {
+            return Err(Cause::Address);
+        }
+        self.perform(i, answer)
     }
 }
