@@ -1,5 +1,5 @@
 -- The functions of legal words, and what they look at.
-use Rattle.std.proofs.Common.{◌≡◌, ℕ, Bool, true, false, not, ◌&&◌, ◌<◌, ◌==◌, nat_lt, refl, ap, inl, inr, arith}
+use Rattle.std.proofs.Common.{◌≡◌, ℕ, Bool, true, false, ◌<◌, ◌==◌, refl, ap, inl, inr, arith}
 use Rattle.std.proofs.lemmas.Bool.Decides.{nat_tests}
 use Rattle.viper_word.proofs.Tests.{both, bool_cases, test_equal}
 use Rattle.viper_word.specs.Fields.{Fields, is_illegal, is_function, is_shift}

@@ -1,7 +1,6 @@
 -- What one step tells those outside.
 use Rattle.std.specs.Prelude.{ℕ, if◌then◌else◌, Option, Some, None, Result, Ok, Err}
 use Rattle.viper_word.specs.declared.cause.Cause.{Cause}
-use Rattle.viper_word.specs.declared.word.Word.{Word}
 use Rattle.viper_word.specs.Fields.{Fields, is_store, is_output}
 use Rattle.viper_word.specs.Machine.{State, step, register, address, store_address, output_address, given}
 use Rattle.viper_next.specs.declared.effect.Effect.{Effect}

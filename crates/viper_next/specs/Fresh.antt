@@ -1,5 +1,5 @@
 -- A machine that has run nothing yet.
-use Rattle.std.specs.Prelude.{◌≡◌, ℕ, Bool, false, slice_index}
+use Rattle.std.specs.Prelude.{◌≡◌, ℕ, false, slice_index}
 use Rattle.viper_word.specs.Machine.{State, IsState}
 
 -- stop is clear, and each of the 2^20 words of memory is zero

@@ -3,7 +3,10 @@ ghost use Rattle.viper_word.specs.Machine.{computed, shifted, compared, kind_of}
 
 use std::marker::Model;
 use viper_decode::Fields;
-use viper_word::{Kind, Word, add_exact, add_wrap, compare, left_through, right_through, sar, shl_exact, sub_exact, sub_wrap};
+use viper_word::{
+    Kind, Word, add_exact, add_wrap, compare, left_through, right_through, sar, shl_exact,
+    sub_exact, sub_wrap,
+};
 
 /// The result of a function, and B after it.
 #[derive(Drop)]

@@ -8,8 +8,9 @@ mod effect;
 mod instruction;
 mod machine;
 
-
 pub use effect::Effect;
 pub use machine::Machine;
-
 pub use viper_word::Cause;
+
+#[cfg(test)]
+mod tests;

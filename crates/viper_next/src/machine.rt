@@ -1,5 +1,5 @@
 ghost use Rattle.std.specs.Prelude.{◌≡◌, ◌<◌, ◌^◌, ℕ, length, IfOk, slice_index, slice_set};
-ghost use Rattle.viper_word.specs.Machine.{wants};
+ghost use Rattle.viper_word.specs.Machine.{IsState, wants};
 ghost use Rattle.viper_next.specs.Fresh.{IsFresh};
 
 mod step;
@@ -50,7 +50,14 @@ fn zero_words(alloc: Global, count: usize) -> Result<Vec<u32>, AllocError>
 impl Machine {
     /// A machine with these registers and stop clear, whose memory is zero. `Memory` where an
     /// allocation found none.
-    pub fn new(alloc: Global, p: Addr, a: Word, x: Word, y: Word, b: bool) -> Result<Machine, Memory>
+    pub fn new(
+        alloc: Global,
+        p: Addr,
+        a: Word,
+        x: Word,
+        y: Word,
+        b: bool,
+    ) -> Result<Machine, Memory>
         ensures registers { IfOk result (λ m. (m.a ≡ a.0) × (m.x ≡ x.0) × (m.y ≡ y.0) × (m.p ≡ p) × (m.b ≡ b)) }
         ensures fresh { IfOk result IsFresh }
     {
@@ -117,7 +124,8 @@ impl Machine {
 
     /// Is stop set?
     pub fn stopped(&self) -> bool
-        ensures { result ≡ self.now.stop }
+        ensures stop { result ≡ self.now.stop }
+        ensures state { IsState self.now }
     {
         self.stop
     }

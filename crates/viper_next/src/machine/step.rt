@@ -1,6 +1,6 @@
 ghost use Rattle.std.specs.Prelude.{◌≡◌, ◌<◌, ◌^◌, ◌-◌, not, ◌&&◌, nat_lt, true, false, IfOk, IfErr, OnOk, OnErr, Ok, Err, Option};
 ghost use Rattle.viper_word.specs.Fields.{is_illegal, is_function, is_shift, has_address, is_jump};
-ghost use Rattle.viper_word.specs.Machine.{Computed as Outcome, current, register, address, is_lawful, operand, is_skipped, written, finished, computed, performed, executed, step, halted, next};
+ghost use Rattle.viper_word.specs.Machine.{IsState, Computed as Outcome, current, register, address, is_lawful, operand, is_skipped, written, finished, computed, performed, executed, step, halted, next};
 ghost use Rattle.viper_next.specs.Effects.{effect_at, effect_of, effect_of_step};
 
 use super::{LAST, Machine};
@@ -159,5 +159,40 @@ impl Machine {
             return Err(Cause::Address);
         }
         self.perform(i, answer)
+    }
+
+    /// One instruction of a machine that isn't stopped, or why it stops: then nothing has changed.
+    #[tactic(auto, unfolding(viper_word::specs::Machine::step))]
+    fn advance(&mut self, answer: Word) -> Result<Effect, Cause>
+        ensures done { OnOk result (step self.old answer.0 ≡ Ok self.new) }
+        ensures effect { IfOk result (λ e. e ≡ effect_at (current self.old) self.old) }
+        ensures stops { IfErr result (λ cause. step self.old answer.0 ≡ Err cause) }
+        ensures kept { OnErr result (self.new ≡ self.old) }
+    {
+        if self.p.get() == LAST {
+            return Err(Cause::End);
+        }
+        self.execute(self.current(), answer)
+    }
+
+    /// Runs one instruction, with the peripheral's answer, which is looked at only where `wants` gave
+    /// an address. A stopped machine is quiet and stays as it is.
+    #[tactic(auto, using(crate::proofs::EffectLemmas::effect_known), unfolding(viper_word::specs::Machine::next, crate::specs::Effects::effect_of, crate::specs::Effects::effect_of_step))]
+    pub fn step(&mut self, answer: Word) -> Effect
+        ensures next { self.new ≡ next self.old answer.0 }
+        ensures effect { result ≡ effect_of self.old answer.0 }
+        ensures state { IsState self.new }
+    {
+        if self.stop {
+            return Effect::Quiet;
+        }
+        match self.advance(answer) {
+            Ok(effect) => effect,
+            Err(cause) => {
+                self.stop = true;
+                self.p = self.p.next();
+                Effect::Stopped(cause)
+            }
+        }
     }
 }
