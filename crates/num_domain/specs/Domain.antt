@@ -1,6 +1,6 @@
 -- What each function of a numeric domain means.
 use Rattle.std.specs.Prelude.{◌≡◌, ℕ, ℤ, int_le, Bool, true, ◌&&◌, Option, Some, None, IsSomeAnd, IfSome, List}
-use Rattle.viper_word.specs.Words.{IsSigned, least_signed, greatest_signed}
+use Rattle.viper_word.specs.Words.{least_signed, greatest_signed}
 use Rattle.viper_word.specs.declared.kind.Kind.{Kind}
 
 -- is the number the signed value of a word?

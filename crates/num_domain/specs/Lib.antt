@@ -9,3 +9,4 @@ pub mod Tests
 pub mod OptionLemmas
 pub mod ExactLaws
 pub mod PairLaws
+pub mod Ends

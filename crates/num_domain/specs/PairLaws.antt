@@ -1,5 +1,5 @@
 -- The laws of pairs, from those of the factors.
-use Rattle.std.specs.Prelude.{◌≡◌, ◌+◌, ◌<◌, ◌≤◌, ℤ, ◌+ℤ◌, ◌-ℤ◌, neg_ℤ, ◌≤ℤ◌, int_le, Bool, true, false, ◌&&◌, ◌||◌, cond, Option, Some, None, IsSomeAnd, IfSome}
+use Rattle.std.specs.Prelude.{◌≡◌, ◌<◌, ◌≤◌, ℤ, ◌+ℤ◌, ◌-ℤ◌, neg_ℤ, ◌≤ℤ◌, int_le, Bool, true, false, ◌||◌, Option, Some, None, IsSomeAnd, IfSome}
 use Rattle.std.proofs.Common.{arith, ap, refl, ⊎_elim}
 use Rattle.std.proofs.Math.Path.{ap₂}
 use Rattle.std.proofs.lemmas.Int.{ints}
@@ -9,7 +9,7 @@ use Rattle.viper_word.specs.Signed.{wrapped, signed_xor, signed_and, signed_nor,
 use Rattle.num_domain.specs.Domain.{Domain, Has, Below, BelowOption}
 use Rattle.num_domain.specs.Ranges.{OnStep}
 use Rattle.num_domain.specs.Laws.{DomainLaws, OrderLaws, SoundLaws, MonoLaws, SpanLaws, Sound1, Sound2, Mono1, Mono2}
-use Rattle.num_domain.specs.Options.{bind, or_else}
+use Rattle.num_domain.specs.Options.{bind}
 use Rattle.num_domain.specs.Pairs.{pair, both, pair_least, pair_greatest, seal, lift1, lift2, joined, pairs}
 use Rattle.num_domain.specs.declared.pair.Pair.{Pair}
 use Rattle.num_domain.specs.OptionLemmas.{some_bind, all_bind, bind_mono, all_some, some_when, all_when, some_or_else}

@@ -1,5 +1,5 @@
 -- The domain of pairs of any two domains: a number is a member where it is one of both.
-use Rattle.std.specs.Prelude.{◌≡◌, ◌+◌, ℤ, int_le, ◌&&◌, ◌||◌, cond, Option, Some, None}
+use Rattle.std.specs.Prelude.{◌+◌, ℤ, int_le, ◌&&◌, ◌||◌, cond, Option, Some, None}
 use Rattle.viper_word.specs.Words.{least_signed, greatest_signed}
 use Rattle.num_domain.specs.Domain.{Domain}
 use Rattle.num_domain.specs.Options.{bind, or_else}

@@ -1,0 +1,2 @@
+pub mod ThresholdLemmas
+pub mod EndsLaws
