@@ -1,2 +1,3 @@
 pub mod ThresholdLemmas
 pub mod EndsLaws
+pub mod SignedCode

@@ -32,13 +32,6 @@ threshold_signed ts k h l =
 
 -- ---- rounding down
 
-pub below_low : (ts : List ℤ) (n : ℤ) → least_signed ≤ℤ below ts n
-unfolding below
-below_low [] n = omega (arith, ints)
-below_low (t ∷ ts) n =
-    let h = below_low ts n in
-    cond_both (int_le t n) (int_max t (below ts n)) (below ts n) (λ r. least_signed ≤ℤ r) (λ e. omega (arith, ints, clamps)) (λ e. h)
-
 pub below_at : (ts : List ℤ) (n : ℤ) (k : ℕ) → k < length ts → slice_index_or ts k (pos 0) ≤ℤ n → slice_index_or ts k (pos 0) ≤ℤ below ts n
 unfolding below
 below_at [] n k h l = absurd (omega arith)
@@ -69,13 +62,6 @@ below_is ts n low h l m f =
         ⊎_elim (λ (e : k ≤ low). h.rising k low e l) (λ (e : low < k). let g = f k e p in absurd (omega (arith, ints))) (le-or-lt k low)
 
 -- ---- rounding up
-
-pub above_high : (ts : List ℤ) (n : ℤ) → above ts n ≤ℤ greatest_signed
-unfolding above
-above_high [] n = omega (arith, ints)
-above_high (t ∷ ts) n =
-    let h = above_high ts n in
-    cond_both (int_le n t) (int_min t (above ts n)) (above ts n) (λ r. r ≤ℤ greatest_signed) (λ e. omega (arith, ints, clamps)) (λ e. h)
 
 pub above_at : (ts : List ℤ) (n : ℤ) (k : ℕ) → k < length ts → n ≤ℤ slice_index_or ts k (pos 0) → above ts n ≤ℤ slice_index_or ts k (pos 0)
 unfolding above

@@ -2,17 +2,17 @@
 use Rattle.std.specs.Prelude.{◌≡◌, ℤ, Bool, cond, Option, Some, None}
 use Rattle.num_domain.specs.Domain.{is_signed, Domain, Has, Below}
 
-module _ {A : Type 0} (d : Domain A) (single : A → Option ℤ) where
-  -- which values are single
-  pub record SingleLaws : Type 0 where
-    pub has : (a : A) (x : ℤ) → single a ≡ Some x → Has d a x
-    pub only : (a : A) (x n : ℤ) → single a ≡ Some x → Has d a n → n ≡ x
-    pub below : (a a' : A) (x : ℤ) → Below d a a' → single a' ≡ Some x → single a ≡ Some x
-    pub least : (a : A) (x : ℤ) → Has d a x → Below d (d.constant x) a
+-- which values are single
+pub record SingleLaws {A : Type 0} (d : Domain A) (single : A → Option ℤ) : Type 0 where
+  pub has : (a : A) (x : ℤ) → single a ≡ Some x → Has d a x
+  pub only : (a : A) (x n : ℤ) → single a ≡ Some x → Has d a n → n ≡ x
+  pub below : (a a' : A) (x : ℤ) → Below d a a' → single a' ≡ Some x → single a ≡ Some x
+  pub least : (a : A) (x : ℤ) → Has d a x → Below d (d.constant x) a
 
+module _ {A : Type 0} (constant : ℤ → A) (single : A → Option ℤ) where
   -- the single value of a result, if it is a word's
   abbrev pub one : ℤ → Option A
-  one z = cond (is_signed z) (Some (d.constant z)) None
+  one z = cond (is_signed z) (Some (constant z)) None
 
   abbrev pub exact1_when : (ℤ → ℤ) → Option ℤ → Option A → Option A
   exact1_when op None r = r

@@ -10,3 +10,4 @@ pub mod OptionLemmas
 pub mod ExactLaws
 pub mod PairLaws
 pub mod Ends
+pub mod RoundingLaws

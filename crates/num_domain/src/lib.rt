@@ -7,6 +7,7 @@
 
 mod domain;
 mod pair;
+pub mod signed;
 mod thresholds;
 
 pub use domain::NumDomain;

@@ -17,7 +17,7 @@ use Rattle.viper_word.specs.declared.kind.Kind.TheVariants.{Lt, Ge, Eq, Ne, Le, 
 
 -- ---- wrapping
 
-signed_fits : (z : ℤ) → IsSigned z → FitsSigned w32 z
+pub signed_fits : (z : ℤ) → IsSigned z → FitsSigned w32 z
 signed_fits (pos n) h = let k = h.high in record { sfits = omega (arith, ints) }
 signed_fits (negsuc n) h = let l = h.low in record { sfits = omega (arith, ints) }
 
@@ -70,7 +70,7 @@ signed_and_not_left x y h w =
     (omega (arith, ints), omega (arith, ints))
 
 -- a word with the highest bit set
-high_word : (n : ℕ) → 2 ^ 31 ≤ n → n < 2 ^ 32 → cast_signed w32 n ≡ negsuc (2 ^ 32 - 1 - n)
+pub high_word : (n : ℕ) → 2 ^ 31 ≤ n → n < 2 ^ 32 → cast_signed w32 n ≡ negsuc (2 ^ 32 - 1 - n)
 high_word n h l =
     let e : 2 ^ 32 - suc (2 ^ 32 - 1 - n) ≡ n = omega arith in
     ap (cast_signed w32) (sym e) ∙ to_z-neg w32 (2 ^ 32 - 1 - n) (omega arith)
