@@ -15,7 +15,7 @@ use Rattle.num_domain.specs.OptionLemmas.{some_when, all_when, all_some, some_or
 use Rattle.num_domain.specs.Tests.{le_true, le_false, true_le, lt_false, is_signed_true, true_is_signed}
 use Rattle.interval_dom.specs.Bounds.{AreEnds}
 use Rattle.interval_dom.specs.Intervals.{interval, interval_if, cut_ends, cut, top, unwrapped, single, constant, intervals}
-use Rattle.interval_dom.specs.declared.Interval.{Interval}
+use Rattle.interval_dom.specs.declared.interval.Interval.{Interval}
 
 pub has_ends : (a : Interval) (n : ℤ) → Has intervals a n → (a.lo ≤ℤ n) × (n ≤ℤ a.hi)
 has_ends a n h =

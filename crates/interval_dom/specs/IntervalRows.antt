@@ -14,7 +14,7 @@ use Rattle.num_domain.specs.Laws.{Sound1, Sound2, SoundFlag, Mono1, Mono2, MonoF
 use Rattle.num_domain.specs.Tests.{le_true, true_le, is_signed_true, true_is_signed}
 use Rattle.interval_dom.specs.Intervals.{cut, top, and_row, power_above, power_of, xor_row, nor_row, and_not_row, right_row, left_row, least_bit, greatest_bit, intervals}
 use Rattle.interval_dom.specs.IntervalOrder.{has_ends, below_ends, has_in_w, below_some_top, top_has, cut_has, cut_mono}
-use Rattle.interval_dom.specs.declared.Interval.{Interval}
+use Rattle.interval_dom.specs.declared.interval.Interval.{Interval}
 
 -- a test that fails sooner for a larger value
 pub cond_below : (t t' : Bool) (x y x' y' : Option Interval) → (t' ≡ true → t ≡ true) → (t ≡ true → t' ≡ true → BelowOption intervals x x') → (t ≡ true → t' ≡ false → BelowOption intervals x y') → (t ≡ false → t' ≡ false → BelowOption intervals y y') → BelowOption intervals (cond t x y) (cond t' x' y')

@@ -15,7 +15,7 @@ use Rattle.num_domain.specs.Rounding.{below, above}
 use Rattle.num_domain.specs.RoundingLaws.{below_low, below_le_self, above_high, above_ge_self}
 use Rattle.num_domain.specs.Tests.{le_true}
 use Rattle.interval_dom.specs.Bounds.{AreEnds}
-use Rattle.interval_dom.specs.declared.Interval.{Interval}
+use Rattle.interval_dom.specs.declared.interval.Interval.{Interval}
 
 -- ---- intervals that are made
 
@@ -45,6 +45,10 @@ top = interval least_signed greatest_signed top_ends
 -- from lo to hi where words can hold both, and else everything
 unfoldable pub unwrapped : ℤ → ℤ → Option Interval
 unwrapped lo hi = cond (is_signed lo && is_signed hi) (cut lo hi) (Some top)
+
+-- can a word hold the number?
+unfoldable pub fits : ℤ → Bool
+fits n = is_signed n
 
 -- the number of a single value
 abbrev pub single : Interval → Option ℤ

@@ -11,3 +11,4 @@ pub mod ExactLaws
 pub mod PairLaws
 pub mod Ends
 pub mod RoundingLaws
+pub mod StepLaws
