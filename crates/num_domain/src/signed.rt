@@ -65,9 +65,7 @@ pub fn and_not(x: i64, y: i64) -> i64
 
 /// Half of the number, rounded down.
 pub fn half(x: i64) -> i64
-    requires { IsSigned x }
-    ensures value { result ≡ halved x }
-    ensures in_range { IsSigned result }
+    ensures { result ≡ halved x }
 {
     x.div_euclid(2)
 }

@@ -1,0 +1,8 @@
+use Rattle.std.proofs.Common.{arith, ◌≡◌, ◌∙◌, ◌+ℤ◌, ◌-ℤ◌, ap, sym, subst, ℤ, pos, to_z, of_z, w64}
+use Rattle.std.proofs.Math.Path.{ap₂}
+use Rattle.std.proofs.lemmas.Int.{ints, clamps}
+use Rattle.congruence_dom.proofs.CongruenceCode.{range_small}
+use Rattle.congruence_dom.proofs.congruence.CongruenceNumDomain.span.Goals as goal
+
+pub make-requires-clause-small : goal.make-requires-clause-small
+make-requires-clause-small c = let r = range_small c.args.lo c.args._hi c.args.modulus c.requires in let e = c.unsigned_abs.ensures.value in omega (arith, ints)
