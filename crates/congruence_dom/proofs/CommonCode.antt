@@ -1,9 +1,9 @@
 -- The first common member, as the code finds it.
-use Rattle.std.specs.Prelude.{◌≡◌, ℕ, ◌+◌, ◌-◌, ◌*◌, ◌/◌, ◌%◌, ◌<◌, ◌≤◌, ◌^◌, ℤ, pos, ◌+ℤ◌, ◌-ℤ◌, ◌≤ℤ◌, ◌<ℤ◌, negsuc, neg_ℤ, Bool, nat_abs, Option, Some, None, IsSomeAnd, IfSome}
-use Rattle.std.specs.Int.{◌∣◌, w64, cast_signed, cast_unsigned, int_rem_euclid}
+use Rattle.std.specs.Prelude.{◌≡◌, ℕ, ◌+◌, ◌-◌, ◌*◌, ◌/◌, ◌%◌, ◌<◌, ◌≤◌, ◌^◌, ℤ, pos, ◌+ℤ◌, ◌-ℤ◌, ◌≤ℤ◌, ◌<ℤ◌, negsuc, neg_ℤ, nat_abs, Option, Some, None, IsSomeAnd, IfSome}
+use Rattle.std.specs.Int.{w64, cast_signed, cast_unsigned, int_rem_euclid}
 use Rattle.std.proofs.Math.Path.{ap₂}
 use Rattle.std.specs.Int.RustNames.{FitsSigned}
-use Rattle.std.proofs.Common.{refl, sym, ap, subst, arith, ⊎_elim, ◌∙◌}
+use Rattle.std.proofs.Common.{refl, sym, ap, subst, arith, ◌∙◌}
 use Rattle.std.proofs.Math.Nat.{div-add-mod, dvd-mul_right, mul-div_cancel'}
 use Rattle.std.proofs.lemmas.Nat.{mod_below}
 use Rattle.std.proofs.lemmas.Int.{ints}
@@ -11,7 +11,7 @@ use Rattle.viper_word.specs.Words.{least_signed, greatest_signed, IsSigned}
 use Rattle.num_domain.specs.Domain.{Has}
 use Rattle.num_domain.specs.Options.{bind}
 use Rattle.congruence_dom.specs.Multiples.{Divides, Divides-sum, Divides-difference, Divides_is, small_multiple, rem_divides, rem_bounds}
-use Rattle.congruence_dom.specs.Congruences.{mod_of, make, least_from, next_common, through, refine_eq, congruences}
+use Rattle.congruence_dom.specs.Congruences.{mod_of, least_from, next_common, through, refine_eq, congruences}
 use Rattle.congruence_dom.specs.CongruenceOrder.{has_parts, parts_has, least_is, least_first, only_member}
 use Rattle.congruence_dom.specs.CommonMembers.{AreCommon, IsNextCommon, next_common_is}
 use Rattle.congruence_dom.specs.Solutions.{IsSolution, spread_at, product_sum}

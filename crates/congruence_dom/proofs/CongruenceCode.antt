@@ -1,6 +1,5 @@
 -- What the code of congruences computes.
 use Rattle.std.specs.Prelude.{◌≡◌, ℕ, ◌<◌, ◌≤◌, ◌-◌, ◌%◌, ◌^◌, ℤ, pos, ◌-ℤ◌, ◌≤ℤ◌, Bool, true, false, ◌&&◌, nat_abs, nat_eq, Option, Some, None, IfSome}
-use Rattle.std.specs.Int.{◌∣◌}
 use Rattle.std.proofs.Common.{refl, sym, ap, subst, arith, ⊎_elim, ◌∙◌}
 use Rattle.std.proofs.Math.Nat.{le_of_dvd, eq-zero_of_zero-dvd, mod-zero}
 use Rattle.std.proofs.lemmas.Int.{ints}
@@ -9,16 +8,16 @@ use Rattle.viper_word.specs.Words.{least_signed, greatest_signed, IsSigned}
 use Rattle.num_domain.specs.Domain.{is_signed, Has}
 use Rattle.num_domain.specs.Options.{or_else}
 use Rattle.num_domain.specs.Ranges.{IsRange}
-use Rattle.num_domain.specs.Exact.{exact1, exact2}
-use Rattle.num_domain.specs.ExactLaws.{exact2_single, exact2_first, exact2_second}
-use Rattle.std.proofs.lemmas.Bool.{and_parts, eqb-false}
+use Rattle.num_domain.specs.Exact.{exact2}
+use Rattle.num_domain.specs.ExactLaws.{exact2_single}
+use Rattle.std.proofs.lemmas.Bool.{and_parts}
 use Rattle.std.proofs.Math.Nat.{dvd_of_mod-eq-zero}
 use Rattle.congruence_dom.specs.CongruenceLaws.{single_from}
 use Rattle.num_domain.specs.Tests.{is_signed_true, true_is_signed}
 use Rattle.congruence_dom.specs.Form.{IsForm}
 use Rattle.congruence_dom.specs.Gcd.{gcd, gcd_left, gcd_right, gcd_greatest}
 use Rattle.congruence_dom.specs.Congruences.{mod_of, positive, reduce, reduce_zero, is_small, small_parts, small_from, congruence_if, make_when, make, next_from, reduced_form, dvd_zero_is, least_from, top, single, constant, congruences}
-use Rattle.congruence_dom.specs.CongruenceOrder.{same_from, same_parts, has_parts, least_is, make_has, only_member}
+use Rattle.congruence_dom.specs.CongruenceOrder.{same_from, has_parts, least_is}
 use Rattle.congruence_dom.specs.declared.congruence.Congruence.{Congruence}
 
 -- ---- for the code

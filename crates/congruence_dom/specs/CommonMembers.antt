@@ -1,6 +1,6 @@
 -- The common members of two congruences: a congruence of the first two of them.
-use Rattle.std.specs.Prelude.{◌≡◌, ℕ, ◌<◌, ◌^◌, ◌-ℤ◌, ◌+ℤ◌, ℤ, pos, ◌≤ℤ◌, ◌<ℤ◌, Bool, true, false, ◌&&◌, cond, int_le, nat_abs, Option, Some, None, IsSomeAnd, IfSome}
-use Rattle.std.proofs.Common.{refl, sym, ap, subst, arith, ⊎_elim, ◌∙◌}
+use Rattle.std.specs.Prelude.{◌≡◌, ◌<◌, ◌^◌, ◌-ℤ◌, ◌+ℤ◌, ℤ, pos, ◌≤ℤ◌, ◌<ℤ◌, true, false, int_le, nat_abs, Option, Some, None, IsSomeAnd, IfSome}
+use Rattle.std.proofs.Common.{refl, ap, arith, ⊎_elim}
 use Rattle.std.proofs.lemmas.Int.{ints}
 use Rattle.std.proofs.lemmas.Bool.{cases_Bool, and_parts, and_from}
 use Rattle.viper_word.specs.Words.{least_signed, IsSigned}

@@ -1,19 +1,18 @@
 -- The laws of congruences.
-use Rattle.std.specs.Prelude.{◌≡◌, ℕ, ◌+◌, ◌*◌, ◌/◌, ◌%◌, ◌<◌, ◌≤◌, ◌-◌, ◌^◌, ℤ, pos, neg_ℤ, ◌+ℤ◌, ◌-ℤ◌, ◌≤ℤ◌, ◌<ℤ◌, ◌⊎◌, Bool, true, false, ◌&&◌, cond, int_le, nat_abs, nat_eq, Option, Some, None, IsSomeAnd, IfSome}
+use Rattle.std.specs.Prelude.{◌≡◌, ℕ, ◌*◌, ◌/◌, ◌%◌, ◌<◌, ◌^◌, ℤ, pos, neg_ℤ, ◌+ℤ◌, ◌-ℤ◌, ◌≤ℤ◌, Bool, true, false, cond, nat_abs, nat_eq, Option, Some, None, IsSomeAnd, IfSome}
 use Rattle.std.specs.Int.{◌∣◌}
 use Rattle.std.specs.Ordering.{int_eq}
-use Rattle.std.proofs.Common.{refl, sym, ap, subst, arith, ⊎_elim, ◌∙◌}
-use Rattle.std.proofs.Math.Nat.{dvd_trans, one-dvd, mod-eq-zero_of_dvd, dvd_of_mod-eq-zero, mul-dvd-mul_left, dvd_of_mul-dvd-mul_left, dvd_refl, dvd-zero, eq-zero_of_zero-dvd}
-use Rattle.std.proofs.lemmas.Int.{ints, clamps}
-use Rattle.std.proofs.lemmas.Bool.{and_parts, and_from, cases_Bool, false≢true, eqb-true, eqb-false, eq-eqb, cond_both}
-use Rattle.viper_word.specs.Words.{IsSigned, least_signed, greatest_signed}
+use Rattle.std.proofs.Common.{refl, sym, ap, subst, arith, ◌∙◌}
+use Rattle.std.proofs.Math.Nat.{dvd_trans, one-dvd, mod-eq-zero_of_dvd, dvd_of_mod-eq-zero, mul-dvd-mul_left, dvd_of_mul-dvd-mul_left, eq-zero_of_zero-dvd}
+use Rattle.std.proofs.lemmas.Int.{ints}
+use Rattle.std.proofs.lemmas.Bool.{and_parts, and_from, eqb-true, eq-eqb, cond_both}
+use Rattle.viper_word.specs.Words.{IsSigned}
 use Rattle.viper_word.specs.Signed.{wrapped, signed_xor, signed_and, signed_nor, signed_and_not, halved, shifted_right, shifted_left, signed_compares}
 use Rattle.viper_word.specs.declared.kind.Kind.{Kind}
 use Rattle.viper_word.specs.declared.kind.Kind.TheVariants.{Lt, Ge, Eq, Ne, Le, Gt, Ult, Uge}
-use Rattle.num_domain.specs.Domain.{Has, Below, BelowOption, LeFlag, MayBe}
-use Rattle.num_domain.specs.Options.{or_else}
+use Rattle.num_domain.specs.Domain.{Has, Below, BelowOption}
 use Rattle.num_domain.specs.Exact.{SingleLaws}
-use Rattle.num_domain.specs.Ranges.{IsRange, InRange, OnStep}
+use Rattle.num_domain.specs.Ranges.{OnStep}
 use Rattle.num_domain.specs.Laws.{Sound1, Sound2, SoundFlag, Mono1, Mono2, MonoFlag, OrderLaws, SoundLaws, MonoLaws, SpanLaws, DomainLaws}
 use Rattle.num_domain.specs.ExactLaws.{exact2_sound, exact2_mono, exact_flag_sound, exact_flag_mono}
 use Rattle.num_domain.specs.OptionLemmas.{all_some, some_or_else}
@@ -21,7 +20,7 @@ use Rattle.num_domain.specs.StepLaws.{on_step_from, step_divides}
 use Rattle.congruence_dom.specs.Gcd.{gcd, gcd_left, gcd_right, gcd_greatest}
 use Rattle.congruence_dom.specs.Multiples.{Divides, Divides-sum, Divides-difference, Divides-zero, Divides-neg_is, Divides_is, Divides_trans, divides, divides_true, true_divides}
 use Rattle.congruence_dom.specs.Wraps.{wrapped_divides, Divides-twice, Divides-halved}
-use Rattle.congruence_dom.specs.Congruences.{mod_of, make, top, single, constant, join_modulus, join_divides, join, common_modulus, wrapped_modulus, sar, left_through, no_row, no_flag_row, all_on, least_from, greatest_to, refine_eq, refine, congruences}
+use Rattle.congruence_dom.specs.Congruences.{mod_of, make, top, single, constant, join_modulus, join_divides, join, common_modulus, wrapped_modulus, sar, left_through, no_row, no_flag_row, all_on, least_from, greatest_to, refine, congruences}
 use Rattle.congruence_dom.specs.CongruenceOrder.{has_parts, parts_has, below_parts, parts_below, reduced_below, make_has, make_mono, make_zero_below, only_member, least_is, greatest_is, least_first, greatest_first, below_has, below_refl, below_trans, below_antisym, height_falls, narrow_has, narrow_below, narrow_mono, join_least}
 use Rattle.congruence_dom.specs.CommonMembers.{refine_eq_sound, refine_eq_mono, refine_eq_below}
 use Rattle.congruence_dom.specs.declared.congruence.Congruence.{Congruence}

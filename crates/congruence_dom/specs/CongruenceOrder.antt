@@ -1,21 +1,20 @@
 -- Congruences by divisors: the order, the members, and what is made.
-use Rattle.std.specs.Prelude.{◌≡◌, ℕ, ◌<◌, ◌≤◌, ◌-◌, ◌%◌, ◌^◌, ℤ, pos, ◌+ℤ◌, ◌-ℤ◌, ◌≤ℤ◌, ◌<ℤ◌, ◌⊎◌, Bool, true, false, ◌&&◌, cond, int_le, nat_abs, nat_eq, nat_le, nat_lt, Option, Some, None, IsSomeAnd, IfSome}
-use Rattle.std.specs.Int.{◌∣◌, int_min, int_max, int_rem_euclid}
-use Rattle.std.proofs.Common.{refl, sym, ap, subst, arith, ⊎_elim, inl, inr, ◌∙◌}
+use Rattle.std.specs.Prelude.{◌≡◌, ℕ, ◌<◌, ◌≤◌, ◌-◌, ◌^◌, ℤ, pos, ◌-ℤ◌, ◌≤ℤ◌, ◌<ℤ◌, ◌⊎◌, Bool, true, false, ◌&&◌, cond, int_le, nat_abs, nat_eq, Option, Some, IsSomeAnd, IfSome}
+use Rattle.std.specs.Int.{◌∣◌, int_min, int_max}
+use Rattle.std.proofs.Common.{refl, sym, subst, arith, ⊎_elim, inl, inr, ◌∙◌}
 use Rattle.std.proofs.Math.Dec.{T_prop}
-use Rattle.std.proofs.Math.Nat.{dvd_trans, dvd-zero, dvd_antisymm, le_of_dvd, dvd_refl, eq-zero_of_zero-dvd, pos_of_dvd_of_pos, one-dvd}
+use Rattle.std.proofs.Math.Nat.{dvd_trans, dvd-zero, dvd_antisymm, le_of_dvd, dvd_refl, eq-zero_of_zero-dvd, pos_of_dvd_of_pos}
 use Rattle.std.proofs.lemmas.Int.{ints, clamps}
-use Rattle.std.proofs.lemmas.Bool.{and_parts, and_from, and_cases, cases_Bool, false≢true, eqb-true, eqb-false, cond_both}
+use Rattle.std.proofs.lemmas.Bool.{and_parts, and_from, cases_Bool, false≢true, eqb-true, cond_both}
 use Rattle.std.proofs.lemmas.Bool.Decides.{nat_tests}
 use Rattle.viper_word.specs.Words.{least_signed, greatest_signed, IsSigned}
 use Rattle.num_domain.specs.Domain.{is_signed, Has, Below, BelowOption}
-use Rattle.num_domain.specs.Options.{bind}
-use Rattle.num_domain.specs.OptionLemmas.{some_bind, all_bind, some_when, all_when, all_some, some_some}
+use Rattle.num_domain.specs.OptionLemmas.{some_bind, all_bind, some_when, all_when, some_some}
 use Rattle.num_domain.specs.Tests.{le_true, le_false, true_le, lt_false, is_signed_true, true_is_signed}
 use Rattle.congruence_dom.specs.Gcd.{gcd, gcd_greatest}
 use Rattle.congruence_dom.specs.Multiples.{Divides, Divides-sum, Divides-difference, Divides-zero, Divides-neg_is, Divides_is, Divides_trans, divides, divides_true, true_divides, small_multiple}
 use Rattle.congruence_dom.specs.Form.{IsForm}
-use Rattle.congruence_dom.specs.Congruences.{mod_of, reduce, positive, reduce_divides, reduce_bounds, reduce_zero, congruence, congruence_if, reduced_form, is_small, small_parts, small_from, large_cases, next_from, next_to, make_when, make, top, join_modulus, join_divides, join, least_from, greatest_to, narrow, congruences}
+use Rattle.congruence_dom.specs.Congruences.{mod_of, reduce, positive, reduce_divides, reduce_bounds, reduce_zero, congruence, congruence_if, reduced_form, is_small, small_parts, small_from, large_cases, next_from, next_to, make_when, make, join_modulus, join, least_from, greatest_to, narrow, congruences}
 use Rattle.congruence_dom.specs.declared.congruence.Congruence.{Congruence}
 
 -- ---- the order and the members, by divisors

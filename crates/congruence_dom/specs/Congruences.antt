@@ -1,14 +1,14 @@
 -- Congruences: what each function gives.
-use Rattle.std.specs.Prelude.{◌≡◌, ℕ, ◌<◌, ◌≤◌, ◌+◌, ◌-◌, ◌*◌, ◌/◌, ◌%◌, ◌^◌, ◌==◌, ℤ, pos, neg_ℤ, ◌+ℤ◌, ◌-ℤ◌, ◌≤ℤ◌, ◌<ℤ◌, ◌⊎◌, Bool, true, false, ◌&&◌, cond, int_le, nat_abs, nat_eq, nat_le, nat_lt, Option, Some, None}
+use Rattle.std.specs.Prelude.{◌≡◌, ℕ, ◌<◌, ◌≤◌, ◌-◌, ◌*◌, ◌/◌, ◌%◌, ◌^◌, ℤ, pos, neg_ℤ, ◌+ℤ◌, ◌-ℤ◌, ◌≤ℤ◌, ◌<ℤ◌, ◌⊎◌, Bool, true, false, ◌&&◌, cond, int_le, nat_abs, nat_eq, nat_le, nat_lt, Option, Some, None}
 use Rattle.std.specs.Int.{◌∣◌, int_min, int_max, int_rem_euclid}
-use Rattle.std.proofs.Common.{refl, subst, arith, ⊎_elim, inl, inr}
+use Rattle.std.proofs.Common.{refl, arith, ⊎_elim, inl, inr}
 use Rattle.std.proofs.Math.Nat.{dvd_trans, le_of_dvd, dvd_refl, eq-zero_of_zero-dvd}
 use Rattle.std.proofs.lemmas.Int.{ints}
 use Rattle.std.proofs.lemmas.Bool.{and_parts, and_from, and_cases, cases_Bool, eqb-true, eqb-false, leb-true, leb-false, ltb-true, ltb-false, lt-ltb, le-leb, cond_both}
 use Rattle.viper_word.specs.Words.{least_signed, greatest_signed, IsSigned}
 use Rattle.viper_word.specs.Signed.{signed_xor, signed_and, signed_nor, signed_and_not, halved, shifted_right}
 use Rattle.viper_word.specs.declared.kind.Kind.{Kind}
-use Rattle.viper_word.specs.declared.kind.Kind.TheVariants.{Lt, Ge, Eq, Ne, Le, Gt, Ult, Uge}
+use Rattle.viper_word.specs.declared.kind.Kind.TheVariants.{Eq}
 use Rattle.num_domain.specs.Domain.{is_signed, Domain}
 use Rattle.num_domain.specs.Options.{bind, or_else}
 use Rattle.num_domain.specs.Exact.{exact2, exact_flag}

@@ -1,5 +1,5 @@
 -- The least solution of a linear congruence, by Euclid's steps.
-use Rattle.std.specs.Prelude.{◌≡◌, ℕ, zero, suc, ◌+◌, ◌-◌, ◌*◌, ◌/◌, ◌%◌, ◌<◌, ◌≤◌, nat_eq, nat_le, Bool, true, false, cond, ◌⊎◌}
+use Rattle.std.specs.Prelude.{◌≡◌, ℕ, ◌+◌, ◌-◌, ◌*◌, ◌/◌, ◌%◌, ◌<◌, ◌≤◌, nat_eq, nat_le, true, false}
 use Rattle.std.specs.Int.{◌∣◌}
 use Rattle.std.proofs.Common.{refl, sym, ap, arith, ⊎_elim, ◌∙◌}
 use Rattle.std.proofs.Math.Nat.{div-add-mod, mod_self, mod-eq_of_lt, dvd-mul_right, mul-div_cancel', mul-le-mul_left, le_of_mul-le-mul_left}

@@ -1,7 +1,7 @@
 -- Wrapping and halving, by divisors.
-use Rattle.std.specs.Prelude.{◌≡◌, ℕ, ◌+◌, ◌-◌, ◌*◌, ◌/◌, ◌%◌, ◌<◌, ◌≤◌, ◌^◌, ℤ, pos, negsuc, ◌+ℤ◌, ◌-ℤ◌, ◌≤ℤ◌, Bool, true, false, nat_lt, nat_abs}
+use Rattle.std.specs.Prelude.{◌≡◌, ℕ, ◌*◌, ◌/◌, ◌%◌, ◌<◌, ◌^◌, ℤ, pos, ◌+ℤ◌, ◌-ℤ◌, true, false, nat_lt, nat_abs}
 use Rattle.std.specs.Int.{◌∣◌, w32, cast_signed, int_wrap, int_rem_euclid}
-use Rattle.std.proofs.Common.{refl, sym, ap, subst, arith, ⊎_elim, ◌∙◌}
+use Rattle.std.proofs.Common.{subst, arith, ⊎_elim}
 use Rattle.std.proofs.Math.Nat.{dvd_refl, dvd_trans, mul-dvd-mul_left, dvd_of_mul-dvd-mul_left, mod-eq-zero_of_dvd, dvd_of_mod-eq-zero}
 use Rattle.std.proofs.lemmas.Int.{ints, to_z_pos}
 use Rattle.std.proofs.lemmas.Bool.{cases_Bool, ltb-true, ltb-false}

@@ -1,11 +1,11 @@
 -- The laws of intervals.
-use Rattle.std.specs.Prelude.{◌≡◌, ℕ, ◌<◌, ◌-◌, ◌%◌, ◌^◌, ◌==◌, ℤ, pos, neg_ℤ, ◌+ℤ◌, ◌-ℤ◌, ◌*ℤ◌, ◌≤ℤ◌, ◌<ℤ◌, ◌⊎◌, Bool, true, false, ◌&&◌, ◌||◌, cond, int_le, nat_abs, List, Option, Some, None, IsSomeAnd}
+use Rattle.std.specs.Prelude.{◌≡◌, ◌<◌, ◌-◌, ◌%◌, ◌^◌, ◌==◌, ℤ, pos, neg_ℤ, ◌+ℤ◌, ◌-ℤ◌, ◌≤ℤ◌, ◌<ℤ◌, ◌⊎◌, Bool, true, false, ◌&&◌, ◌||◌, int_le, nat_abs, Some, IsSomeAnd}
 use Rattle.std.specs.Ordering.{int_eq}
 use Rattle.std.specs.Int.{int_min, int_max}
-use Rattle.std.proofs.Common.{refl, sym, arith, ⊎_elim, inl, inr, ◌∙◌}
+use Rattle.std.proofs.Common.{refl, arith, ⊎_elim, inl, inr}
 use Rattle.std.proofs.lemmas.Int.{ints, clamps}
-use Rattle.std.proofs.lemmas.Bool.{and_parts, and_from, and_cases, cond_both, cases_Bool, false≢true}
-use Rattle.viper_word.specs.Words.{IsSigned, least_signed, greatest_signed}
+use Rattle.std.proofs.lemmas.Bool.{and_parts, and_from, and_cases, false≢true}
+use Rattle.viper_word.specs.Words.{IsSigned}
 use Rattle.viper_word.specs.Signed.{wrapped, signed_xor, signed_and, signed_nor, signed_and_not, halved, shifted_right, shifted_left}
 use Rattle.num_domain.specs.Domain.{Has, Below}
 use Rattle.num_domain.specs.Ranges.{OnStep}
@@ -15,12 +15,11 @@ use Rattle.num_domain.specs.OptionLemmas.{some_when, all_when, some_or_else}
 use Rattle.num_domain.specs.RoundingLaws.{below_le_self, below_mono, above_ge_self, above_mono}
 use Rattle.num_domain.specs.StepLaws.{on_step_from}
 use Rattle.num_domain.specs.Tests.{le_true, le_false, true_le}
-use Rattle.viper_word.proofs.SignedLemmas.{halved_twice}
 use Rattle.interval_dom.specs.Bounds.{AreEnds}
 use Rattle.interval_dom.specs.Intervals.{cut, top, unwrapped, single, and_row, xor_row, nor_row, and_not_row, right_row, left_row, join, least_from, greatest_to, all_on, intervals}
 use Rattle.interval_dom.specs.IntervalOrder.{has_ends, ends_has, below_ends, ends_below, has_in_w, below_top, top_has, same_ends, cut_has, cut_mono, cut_below, single_laws, constant_has, unwrapped_has, unwrapped_mono}
 use Rattle.interval_dom.specs.IntervalRows.{and_sound, and_mono, xor_sound, xor_mono, nor_sound, nor_mono, and_not_sound, and_not_mono, right_sound, right_mono, left_sound, left_mono, halved_mono}
-use Rattle.interval_dom.specs.IntervalRefine.{eq_true, true_eq, refine_sound, refine_mono, refine_below}
+use Rattle.interval_dom.specs.IntervalRefine.{eq_true, refine_sound, refine_mono, refine_below}
 use Rattle.interval_dom.specs.declared.interval.Interval.{Interval}
 
 width_falls : (lo hi lo' hi' : ℤ) → AreEnds lo hi → AreEnds lo' hi' → lo' ≤ℤ lo → hi ≤ℤ hi' → (lo' <ℤ lo) ⊎ (hi <ℤ hi') → 2 ^ 32 - 1 - nat_abs (hi' -ℤ lo') < 2 ^ 32 - 1 - nat_abs (hi -ℤ lo)

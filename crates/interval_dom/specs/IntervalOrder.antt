@@ -1,20 +1,20 @@
 -- Intervals by their ends: the order, the members, and what is cut to the signed values.
-use Rattle.std.specs.Prelude.{◌≡◌, ℕ, ◌<◌, ◌≤◌, ◌-◌, ◌^◌, ℤ, pos, ◌+ℤ◌, ◌-ℤ◌, ◌≤ℤ◌, ◌<ℤ◌, ◌⊎◌, Bool, true, false, ◌&&◌, cond, int_le, nat_abs, Option, Some, None, IsSomeAnd, IfSome}
+use Rattle.std.specs.Prelude.{◌≡◌, ℤ, ◌≤ℤ◌, ◌<ℤ◌, Bool, true, false, ◌&&◌, cond, int_le, Option, Some, None, IsSomeAnd, IfSome}
 use Rattle.std.specs.Int.{int_min, int_max}
-use Rattle.std.proofs.Common.{refl, sym, ap, subst, arith, ⊎_elim, inl, inr, ◌∙◌}
+use Rattle.std.proofs.Common.{refl, sym, ap, subst, arith}
 use Rattle.std.proofs.Math.Dec.{T_prop}
 use Rattle.std.proofs.lemmas.Int.{ints, clamps}
-use Rattle.std.proofs.lemmas.Bool.{and_parts, and_from, and_cases, false≢true, cond_both, cases_Bool}
+use Rattle.std.proofs.lemmas.Bool.{and_parts, and_from, false≢true, cond_both}
 use Rattle.viper_word.specs.Words.{IsSigned, least_signed, greatest_signed}
 use Rattle.viper_word.specs.Signed.{wrapped}
 use Rattle.viper_word.proofs.SignedLemmas.{wrapped_is, wrapped_in_w}
 use Rattle.num_domain.specs.Domain.{Has, Below, BelowOption, is_signed}
 use Rattle.num_domain.specs.Options.{or_else}
 use Rattle.num_domain.specs.Exact.{SingleLaws}
-use Rattle.num_domain.specs.OptionLemmas.{some_when, all_when, all_some, some_or_else}
-use Rattle.num_domain.specs.Tests.{le_true, le_false, true_le, lt_false, is_signed_true, true_is_signed}
+use Rattle.num_domain.specs.OptionLemmas.{some_or_else}
+use Rattle.num_domain.specs.Tests.{le_true, true_le, lt_false, is_signed_true, true_is_signed}
 use Rattle.interval_dom.specs.Bounds.{AreEnds}
-use Rattle.interval_dom.specs.Intervals.{interval, interval_if, cut_ends, cut, top, unwrapped, single, constant, intervals}
+use Rattle.interval_dom.specs.Intervals.{interval, interval_if, cut, top, unwrapped, single, constant, intervals}
 use Rattle.interval_dom.specs.declared.interval.Interval.{Interval}
 
 pub has_ends : (a : Interval) (n : ℤ) → Has intervals a n → (a.lo ≤ℤ n) × (n ≤ℤ a.hi)

@@ -1,8 +1,8 @@
 -- Refining an interval is sound, gives the least interval, and so is monotone.
-use Rattle.std.specs.Prelude.{◌≡◌, ℕ, ◌<◌, ◌≤◌, ◌-◌, ◌^◌, ℤ, pos, negsuc, ◌+ℤ◌, ◌-ℤ◌, ◌≤ℤ◌, ◌<ℤ◌, ◌⊎◌, Bool, true, false, not, ◌&&◌, cond, int_le, int_lt, nat_lt, nat_le, Option, Some, None, IsSomeAnd, IfSome}
+use Rattle.std.specs.Prelude.{◌≡◌, ℤ, pos, negsuc, ◌+ℤ◌, ◌-ℤ◌, ◌≤ℤ◌, ◌<ℤ◌, ◌⊎◌, Bool, true, false, not, cond, int_le, int_lt, Option, Some, None, IsSomeAnd, IfSome}
 use Rattle.std.specs.Ordering.{int_eq}
 use Rattle.std.specs.Int.{w32, cast_unsigned, int_min, int_max}
-use Rattle.std.proofs.Common.{refl, sym, subst, ap, arith, ⊎_elim, inl, inr, ◌∙◌}
+use Rattle.std.proofs.Common.{refl, sym, arith, ⊎_elim, inl, inr}
 use Rattle.std.proofs.lemmas.Int.{ints, clamps}
 use Rattle.std.proofs.lemmas.Bool.{false≢true, cond_both, cases_Bool, ltb-true, leb-true, lt-ltb, le-leb}
 use Rattle.viper_word.specs.Words.{IsSigned, least_signed, greatest_signed}
@@ -13,7 +13,7 @@ use Rattle.num_domain.specs.Domain.{Has, Below, BelowOption}
 use Rattle.num_domain.specs.Laws.{Mono2}
 use Rattle.num_domain.specs.OptionLemmas.{all_some}
 use Rattle.num_domain.specs.Tests.{le_true, le_false, true_le}
-use Rattle.interval_dom.specs.Intervals.{cut, top, join, hull, without, negative_to, natural_to, negative_from, natural_from, refine, intervals}
+use Rattle.interval_dom.specs.Intervals.{cut, join, hull, without, negative_to, natural_to, negative_from, natural_from, refine, intervals}
 use Rattle.interval_dom.specs.IntervalOrder.{has_ends, ends_has, below_ends, ends_below, has_in_w, cut_has, cut_all}
 use Rattle.interval_dom.specs.declared.interval.Interval.{Interval}
 

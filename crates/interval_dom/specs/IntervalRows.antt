@@ -1,16 +1,16 @@
 -- The rows of intervals are sound and monotone.
-use Rattle.std.specs.Prelude.{◌≡◌, ℕ, suc, ◌+◌, ◌*◌, ◌<◌, ◌≤◌, ◌-◌, ◌^◌, ℤ, pos, negsuc, neg_ℤ, ◌+ℤ◌, ◌-ℤ◌, ◌≤ℤ◌, ◌<ℤ◌, ◌⊎◌, Bool, true, false, ◌&&◌, cond, int_le, nat_le, nat_abs, Option, Some, None, IsSomeAnd, IfSome}
+use Rattle.std.specs.Prelude.{◌≡◌, ℕ, suc, ◌+◌, ◌*◌, ◌<◌, ◌≤◌, ◌-◌, ◌^◌, ℤ, pos, negsuc, neg_ℤ, ◌+ℤ◌, ◌-ℤ◌, ◌≤ℤ◌, Bool, true, false, ◌&&◌, cond, int_le, nat_le, nat_abs, Option, Some, None, IsSomeAnd}
 use Rattle.std.specs.Int.{w32, int_min, int_max, leading_zeros}
-use Rattle.std.proofs.Common.{refl, sym, subst, ap, arith, ⊎_elim, inl, inr, ◌∙◌}
+use Rattle.std.proofs.Common.{refl, sym, ap, arith, ⊎_elim}
 use Rattle.std.proofs.Math.Nat.{pow-le-pow_right}
 use Rattle.std.proofs.lemmas.Nat.{leading_length}
 use Rattle.std.proofs.lemmas.Int.{ints, clamps}
 use Rattle.std.proofs.lemmas.Bool.{and_parts, and_from, false≢true, cond_both, cases_Bool, leb-true, leb-false}
 use Rattle.viper_word.specs.Words.{IsSigned, least_signed, greatest_signed}
 use Rattle.viper_word.specs.Signed.{signed_xor, signed_and, signed_nor, signed_and_not, halved, shifted_right, shifted_left}
-use Rattle.viper_word.proofs.SignedLemmas.{signed_and_left, signed_and_right, signed_and_not_left, signed_xor_below, signed_nor_above, halved_twice, shifted_right_set, shifted_right_clear, shifted_right_halved, shifted_left_is, shifted_left_in_w}
+use Rattle.viper_word.proofs.SignedLemmas.{signed_and_left, signed_and_right, signed_and_not_left, signed_xor_below, signed_nor_above, halved_twice, shifted_right_set, shifted_right_clear, shifted_right_halved, shifted_left_is}
 use Rattle.num_domain.specs.Domain.{Has, Below, BelowOption, LeFlag, MayBe, is_signed}
-use Rattle.num_domain.specs.Laws.{Sound1, Sound2, SoundFlag, Mono1, Mono2, MonoFlag}
+use Rattle.num_domain.specs.Laws.{Sound2, SoundFlag, Mono2, MonoFlag}
 use Rattle.num_domain.specs.Tests.{le_true, true_le, is_signed_true, true_is_signed}
 use Rattle.interval_dom.specs.Intervals.{cut, top, and_row, power_above, power_of, xor_row, nor_row, and_not_row, right_row, left_row, least_bit, greatest_bit, intervals}
 use Rattle.interval_dom.specs.IntervalOrder.{has_ends, below_ends, has_in_w, below_some_top, top_has, cut_has, cut_mono}

@@ -1,10 +1,10 @@
 -- What the code of the signed operations computes.
-use Rattle.std.specs.Prelude.{◌≡◌, ℕ, ◌+◌, ◌-◌, ◌/◌, ◌%◌, ◌^◌, ◌<◌, ◌≤◌, ℤ, pos, negsuc, ◌+ℤ◌, ◌-ℤ◌, Bool, true, false, cond, nat_lt, bit_and, bit_or, bit_xor}
+use Rattle.std.specs.Prelude.{◌≡◌, ℕ, ◌+◌, ◌-◌, ◌/◌, ◌%◌, ◌^◌, ◌<◌, ℤ, pos, negsuc, ◌+ℤ◌, ◌-ℤ◌, Bool, true, false, cond, nat_lt, bit_and, bit_or, bit_xor}
 use Rattle.std.specs.Int.{w32, w64, cast_signed, cast_unsigned, int_wrap, int_div_euclid}
-use Rattle.std.proofs.Common.{refl, sym, ap, arith, ⊎_elim, ◌∙◌}
+use Rattle.std.proofs.Common.{refl, ap, arith, ⊎_elim, ◌∙◌}
 use Rattle.std.proofs.Math.Path.{ap₂}
-use Rattle.std.proofs.lemmas.Int.{ints, to_z_pos, of_z-to_z, wrapping_add_is, wrapping_sub_is, int_wrap-add_left}
-use Rattle.std.proofs.lemmas.Nat.{and_le_l, xor_lt, or_lt}
+use Rattle.std.proofs.lemmas.Int.{ints, to_z_pos, wrapping_add_is, wrapping_sub_is, int_wrap-add_left}
+use Rattle.std.proofs.lemmas.Nat.{and_le_l, xor_lt}
 use Rattle.std.proofs.lemmas.Bool.{cases_Bool, ltb-true, ltb-false}
 use Rattle.viper_word.specs.Words.{IsSigned}
 use Rattle.viper_word.specs.Signed.{wrapped, signed_xor, signed_and, signed_nor, signed_and_not, halved, shifted_right, shifted_left}

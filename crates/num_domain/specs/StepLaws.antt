@@ -1,9 +1,9 @@
 -- Steps of a modulus, by the test of a remainder.
-use Rattle.std.specs.Prelude.{◌≡◌, ℕ, ◌+◌, ◌*◌, ◌/◌, ◌%◌, ◌<◌, ◌==◌, suc, zero, ℤ, pos, negsuc, neg_ℤ, ◌+ℤ◌, ◌-ℤ◌, ◌*ℤ◌, ◌≤ℤ◌, Bool, true, nat_abs}
+use Rattle.std.specs.Prelude.{◌≡◌, ℕ, ◌+◌, ◌*◌, ◌/◌, ◌%◌, ◌==◌, suc, zero, ℤ, pos, negsuc, neg_ℤ, ◌+ℤ◌, ◌-ℤ◌, ◌*ℤ◌, ◌≤ℤ◌, true, nat_abs}
 use Rattle.std.specs.Int.{◌∣◌}
 use Rattle.std.proofs.Common.{arith, sym, ap, ◌∙◌}
 use Rattle.std.proofs.Math.Nat.{div-add-mod, dvd-mul_right}
-use Rattle.std.proofs.lemmas.Bool.{eqb-true, eq-eqb}
+use Rattle.std.proofs.lemmas.Bool.{eqb-true}
 use Rattle.std.proofs.lemmas.Int.{ints, unsigned_abs-mul}
 use Rattle.num_domain.specs.Ranges.{OnStep}
 
@@ -19,7 +19,7 @@ whole_steps q t (pos n) m e h =
     let d = div-add-mod n m in
     let f : m * (n / m) ≡ n = omega arith in
     record { steps = pos (n / m); holds = rw e (ap (λ (k : ℕ). t +ℤ pos k) (sym f)) }
-whole_steps q t (negsuc n) m e h = 
+whole_steps q t (negsuc n) m e h =
     back_steps q t n m (nat_abs (negsuc n) / m) e (let d = div-add-mod (nat_abs (negsuc n)) m in let c : nat_abs (negsuc n) ≡ n + 1 = omega (arith, ints) in omega arith)
 
 pub on_step_from : (q t z n : ℤ) → pos 1 ≤ℤ q → (nat_abs (z -ℤ t) % nat_abs q == 0) ≡ true → n ≡ z → OnStep q t n

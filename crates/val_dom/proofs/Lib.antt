@@ -1,1 +1,2 @@
 pub mod ValCode
+pub mod ValMembers

@@ -7,3 +7,6 @@
 mod val;
 
 pub use val::Val;
+
+#[cfg(test)]
+mod tests;

@@ -1,4 +1,5 @@
-ghost use Rattle.std.specs.Prelude.{◌≡◌};
+ghost use Rattle.std.specs.Prelude.{◌≡◌, ◌↔◌, IsTrue, ℤ};
+ghost use Rattle.num_domain.specs.Domain.{Has};
 ghost use Rattle.val_dom.specs.Normal.{IsNormal};
 
 use congruence_dom::Congruence;
@@ -39,7 +40,10 @@ impl NumDomain for Val {
         }
     }
 
-    fn includes(&self, other: &Val) -> bool {
+    fn includes(&self, other: &Val) -> bool
+        ensures row { result ≡ vals.includes self.now other.now }
+        ensures members { IsTrue result ↔ ((n : ℤ) → Has vals other.now n → Has vals self.now n) }
+    {
         self.pair.includes(&other.pair)
     }
 

@@ -1,4 +1,4 @@
-use Rattle.std.proofs.Common.{arith, ◌≡◌, to_z, of_z, w64, ◌∙◌}
+use Rattle.std.proofs.Common.{arith, ◌≡◌, to_z, of_z, w64}
 use Rattle.std.proofs.lemmas.Int.{ints}
 use Rattle.num_domain.proofs.SignedCode.{and_code}
 use Rattle.num_domain.proofs.signed.and.Goals as goal

@@ -1,4 +1,4 @@
-use Rattle.std.proofs.Common.{arith, ◌≡◌, to_z, of_z, w64, ◌∙◌}
+use Rattle.std.proofs.Common.{arith, ◌≡◌, to_z, of_z, w64}
 use Rattle.std.proofs.lemmas.Int.{ints}
 use Rattle.num_domain.proofs.SignedCode.{and_not_code}
 use Rattle.num_domain.proofs.signed.and_not.Goals as goal

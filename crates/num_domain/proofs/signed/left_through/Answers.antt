@@ -1,4 +1,4 @@
-use Rattle.std.proofs.Common.{arith, ◌≡◌, ◌+ℤ◌, ap, sym, subst, ◌∙◌, Bool, ℤ, to_z, of_z, w64}
+use Rattle.std.proofs.Common.{arith, ◌≡◌, ◌+ℤ◌, ap, sym, subst, ◌∙◌, Bool}
 use Rattle.std.proofs.lemmas.Int.{ints}
 use Rattle.viper_word.specs.Signed.{shifted_left, wrapped}
 use Rattle.viper_word.proofs.SignedLemmas.{shifted_left_in_w}

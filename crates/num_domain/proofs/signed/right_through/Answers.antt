@@ -1,4 +1,4 @@
-use Rattle.std.proofs.Common.{arith, refl, true, false, ◌≡◌, ap, sym, subst, ◌∙◌, Bool, ℤ, ◌+◌, ◌/◌, ℕ, to_z, of_z, w32, w64}
+use Rattle.std.proofs.Common.{arith, true, false, ◌≡◌, ap, sym, subst, ◌∙◌, Bool, ◌+◌, ◌/◌, to_z, of_z, w32, w64}
 use Rattle.std.proofs.lemmas.Int.{ints}
 use Rattle.viper_word.specs.Signed.{shifted_right}
 use Rattle.viper_word.proofs.SignedLemmas.{shifted_right_in_w}

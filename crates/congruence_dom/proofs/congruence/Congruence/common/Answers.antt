@@ -1,9 +1,8 @@
-use Rattle.std.proofs.Common.{arith, ◌≡◌, ◌∙◌, ◌+ℤ◌, ◌-ℤ◌, ap, sym, subst, ℤ, pos, to_z, of_z, w64, Option}
+use Rattle.std.proofs.Common.{arith, ◌≡◌, ◌∙◌, ◌-ℤ◌, ap, to_z, of_z, w64}
 use Rattle.std.proofs.Math.Path.{ap₂}
-use Rattle.std.proofs.lemmas.Int.{ints, clamps}
-use Rattle.std.specs.Prelude.{None, Some, ℕ, nat_abs}
-use Rattle.congruence_dom.specs.CommonMembers.{IsNextCommon}
-use Rattle.congruence_dom.specs.Congruences.{make, through}
+use Rattle.std.proofs.lemmas.Int.{ints}
+use Rattle.std.specs.Prelude.{None, Some, nat_abs}
+use Rattle.congruence_dom.specs.Congruences.{make}
 use Rattle.congruence_dom.proofs.CommonCode.{fits_small, first_signed, no_first, first_and}
 use Rattle.congruence_dom.proofs.congruence.Congruence.common.Goals as goal
 

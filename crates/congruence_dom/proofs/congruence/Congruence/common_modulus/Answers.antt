@@ -1,6 +1,5 @@
-use Rattle.std.proofs.Common.{arith, ◌≡◌, ◌∙◌, ◌+ℤ◌, ◌-ℤ◌, ap, sym, subst, ℤ, pos, to_z, of_z, w64}
+use Rattle.std.proofs.Common.{arith, ◌≡◌, ◌∙◌}
 use Rattle.std.proofs.Math.Path.{ap₂}
-use Rattle.std.proofs.lemmas.Int.{ints, clamps}
 use Rattle.congruence_dom.specs.Congruences.{mod_of}
 use Rattle.congruence_dom.specs.Gcd.{gcd}
 use Rattle.congruence_dom.proofs.CongruenceCode.{gcd_small}

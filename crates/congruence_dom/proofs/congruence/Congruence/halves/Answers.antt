@@ -1,6 +1,5 @@
-use Rattle.std.proofs.Common.{arith, ◌≡◌, ◌∙◌, ◌+ℤ◌, ◌-ℤ◌, ap, sym, subst, ℤ, pos, to_z, of_z, w64}
-use Rattle.std.proofs.Math.Path.{ap₂}
-use Rattle.std.proofs.lemmas.Int.{ints, clamps}
+use Rattle.std.proofs.Common.{arith, ◌≡◌, ◌∙◌, ap}
+use Rattle.std.proofs.lemmas.Int.{ints}
 use Rattle.viper_word.specs.Signed.{halved}
 use Rattle.viper_word.proofs.SignedLemmas.{halved_twice}
 use Rattle.congruence_dom.proofs.congruence.Congruence.halves.Goals as goal

@@ -1,6 +1,5 @@
-use Rattle.std.proofs.Common.{arith, ◌≡◌, ◌∙◌, ◌+ℤ◌, ◌-ℤ◌, ap, sym, subst, ℤ, pos, to_z, of_z, w64, Option}
-use Rattle.std.proofs.Math.Path.{ap₂}
-use Rattle.std.proofs.lemmas.Int.{ints, clamps}
+use Rattle.std.proofs.Common.{arith, ◌≡◌, subst, ℤ, to_z, of_z, w64}
+use Rattle.std.proofs.lemmas.Int.{ints}
 use Rattle.congruence_dom.specs.CommonMembers.{IsNextCommon}
 use Rattle.congruence_dom.proofs.CommonCode.{next_swapped}
 use Rattle.congruence_dom.proofs.congruence.Congruence.next_common.Goals as goal

@@ -1,4 +1,4 @@
-use Rattle.std.proofs.Common.{arith, refl}
+use Rattle.std.proofs.Common.{arith}
 use Rattle.std.proofs.lemmas.Int.{ints}
 use Rattle.congruence_dom.proofs.CongruenceCode.{constant_is}
 use Rattle.congruence_dom.proofs.congruence.Congruence.single.Goals as goal

@@ -1,6 +1,6 @@
-use Rattle.std.proofs.Common.{arith, ◌≡◌, ◌∙◌, ◌+ℤ◌, ◌-ℤ◌, ap, sym, subst, ℤ, pos, to_z, of_z, w64}
+use Rattle.std.proofs.Common.{arith, ◌∙◌, ap}
 use Rattle.std.proofs.Math.Path.{ap₂}
-use Rattle.std.proofs.lemmas.Int.{ints, clamps}
+use Rattle.std.proofs.lemmas.Int.{ints}
 use Rattle.congruence_dom.specs.Gcd.{gcd}
 use Rattle.std.specs.Prelude.{ℕ}
 use Rattle.congruence_dom.specs.Congruences.{make}

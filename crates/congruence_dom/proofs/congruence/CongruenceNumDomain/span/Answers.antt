@@ -1,6 +1,5 @@
-use Rattle.std.proofs.Common.{arith, ◌≡◌, ◌∙◌, ◌+ℤ◌, ◌-ℤ◌, ap, sym, subst, ℤ, pos, to_z, of_z, w64}
-use Rattle.std.proofs.Math.Path.{ap₂}
-use Rattle.std.proofs.lemmas.Int.{ints, clamps}
+use Rattle.std.proofs.Common.{arith}
+use Rattle.std.proofs.lemmas.Int.{ints}
 use Rattle.congruence_dom.proofs.CongruenceCode.{range_small}
 use Rattle.congruence_dom.proofs.congruence.CongruenceNumDomain.span.Goals as goal
 

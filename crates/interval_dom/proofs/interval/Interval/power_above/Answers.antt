@@ -1,7 +1,6 @@
-use Rattle.std.proofs.Common.{arith, ◌≡◌, ◌∙◌, ◌+ℤ◌, ◌-ℤ◌, ap, sym, subst, ℤ, pos, to_z, of_z, w64}
-use Rattle.std.proofs.Math.Path.{ap₂}
+use Rattle.std.proofs.Common.{arith, ◌≡◌, ap, to_z, of_z, w64}
 use Rattle.std.proofs.lemmas.Int.{ints, clamps}
-use Rattle.std.specs.Prelude.{nat_abs, ℕ, ◌<◌, ◌^◌}
+use Rattle.std.specs.Prelude.{nat_abs, ◌<◌, ◌^◌}
 use Rattle.std.specs.Int.{int_max}
 use Rattle.interval_dom.proofs.IntervalCode.{power_code}
 use Rattle.interval_dom.proofs.interval.Interval.power_above.Goals as goal

@@ -1,7 +1,5 @@
-use Rattle.std.proofs.Common.{arith, ◌≡◌, ◌∙◌, ◌+ℤ◌, ◌-ℤ◌, ap, sym, subst, ℤ, pos, to_z, of_z, w64}
-use Rattle.std.proofs.Math.Path.{ap₂}
-use Rattle.std.proofs.lemmas.Int.{ints, clamps}
-use Rattle.interval_dom.specs.Intervals.{cut}
+use Rattle.std.proofs.Common.{arith, ◌≡◌, ◌∙◌, to_z, of_z, w64}
+use Rattle.std.proofs.lemmas.Int.{ints}
 use Rattle.interval_dom.proofs.IntervalCode.{after_is, before_is, without_is}
 use Rattle.interval_dom.proofs.interval.Interval.without.Goals as goal
 

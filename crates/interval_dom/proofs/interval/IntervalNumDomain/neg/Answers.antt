@@ -1,6 +1,6 @@
-use Rattle.std.proofs.Common.{arith, ◌≡◌, ◌∙◌, ◌+ℤ◌, ◌-ℤ◌, neg_ℤ, ap, sym, subst, ℤ, pos, to_z, of_z, w64}
+use Rattle.std.proofs.Common.{arith, ◌≡◌, ◌∙◌, neg_ℤ, ap, sym}
 use Rattle.std.proofs.Math.Path.{ap₂}
-use Rattle.std.proofs.lemmas.Int.{ints, clamps}
+use Rattle.std.proofs.lemmas.Int.{ints}
 use Rattle.viper_word.specs.Signed.{wrapped}
 use Rattle.interval_dom.specs.Intervals.{constant, unwrapped}
 use Rattle.interval_dom.proofs.IntervalCode.{then_exact1, else_exact1}

@@ -1,6 +1,5 @@
-use Rattle.std.proofs.Common.{arith, ◌≡◌, ◌∙◌, ◌+ℤ◌, ◌-ℤ◌, ap, sym, subst, ℤ, pos, to_z, of_z, w64}
-use Rattle.std.proofs.Math.Path.{ap₂}
-use Rattle.std.proofs.lemmas.Int.{ints, clamps}
+use Rattle.std.proofs.Common.{arith, ◌≡◌, ◌∙◌, ap}
+use Rattle.std.proofs.lemmas.Int.{ints}
 use Rattle.num_domain.specs.Rounding.{below, above}
 use Rattle.interval_dom.specs.Intervals.{round_ends, intervals}
 use Rattle.interval_dom.specs.IntervalOrder.{same_ends}

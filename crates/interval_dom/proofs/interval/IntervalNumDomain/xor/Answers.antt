@@ -1,6 +1,6 @@
-use Rattle.std.proofs.Common.{arith, ◌≡◌, ◌∙◌, ◌+ℤ◌, ◌-ℤ◌, ap, sym, subst, ℤ, pos, to_z, of_z, w64}
+use Rattle.std.proofs.Common.{arith, ◌≡◌, ◌∙◌, ap, sym}
 use Rattle.std.proofs.Math.Path.{ap₂}
-use Rattle.std.proofs.lemmas.Int.{ints, clamps}
+use Rattle.std.proofs.lemmas.Int.{ints}
 use Rattle.viper_word.specs.Signed.{signed_xor}
 use Rattle.interval_dom.specs.Intervals.{constant, xor_row}
 use Rattle.interval_dom.proofs.IntervalCode.{then_exact}
