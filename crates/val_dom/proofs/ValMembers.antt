@@ -1,19 +1,19 @@
 -- Inclusion of values is inclusion of their members.
-use Rattle.std.specs.Prelude.{◌≡◌, ℕ, ◌<◌, ◌≤◌, ℤ, pos, ◌+ℤ◌, ◌-ℤ◌, ◌≤ℤ◌, ◌<ℤ◌, int_le, nat_abs, nat_eq, Bool, true, false}
+use Rattle.std.specs.Prelude.{◌≡◌, ℕ, ◌<◌, ℤ, pos, ◌+ℤ◌, ◌-ℤ◌, ◌≤ℤ◌, ◌<ℤ◌, int_le, nat_eq, true, false}
 use Rattle.std.specs.Int.{◌∣◌}
 use Rattle.std.proofs.Common.{subst, sym, arith, ⊎_elim}
 use Rattle.std.proofs.Math.Nat.{dvd_refl, dvd-zero, le_of_dvd}
 use Rattle.std.proofs.lemmas.Int.{ints}
-use Rattle.std.proofs.lemmas.Bool.{and_parts, and_from, cases_Bool, eqb-true}
+use Rattle.std.proofs.lemmas.Bool.{cases_Bool, eqb-true}
 use Rattle.viper_word.specs.Words.{IsSigned}
 use Rattle.num_domain.specs.Domain.{Has, Below}
 use Rattle.num_domain.specs.PairLaws.{both_has, has_both, both_le}
 use Rattle.num_domain.specs.Tests.{le_true, le_false}
 use Rattle.interval_dom.specs.Intervals.{intervals}
-use Rattle.interval_dom.specs.IntervalOrder.{has_ends, ends_has, ends_below, has_in_w}
-use Rattle.congruence_dom.specs.Multiples.{Divides, Divides-sum, Divides-difference, Divides-neg_is, Divides_is, Divides-zero, Divides_trans}
+use Rattle.interval_dom.specs.IntervalOrder.{has_ends, ends_has, ends_below}
+use Rattle.congruence_dom.specs.Multiples.{Divides, Divides-sum, Divides-difference, Divides_trans}
 use Rattle.congruence_dom.specs.Congruences.{congruences, mod_of, positive}
-use Rattle.congruence_dom.specs.CongruenceOrder.{has_parts, parts_has, parts_below, only_member}
+use Rattle.congruence_dom.specs.CongruenceOrder.{has_parts, parts_has, parts_below}
 use Rattle.val_dom.specs.Vals.{vals}
 use Rattle.val_dom.specs.declared.val.Val.{Val}
 
@@ -54,7 +54,7 @@ modulus_divides a b f =
     let h = positive (mod_of a.pair.right) e in
     let o = a.pair.left.ends.ordered in
     let apart : a.pair.left.lo <ℤ a.pair.left.hi = ⊎_elim (λ (t : int_le a.pair.left.hi a.pair.left.lo ≡ true). let l = le_true a.pair.left.hi a.pair.left.lo t in let z = a.normal.single (omega (arith, ints)) in absurd (omega (arith, ints)))
-        (λ (t : int_le a.pair.left.hi a.pair.left.lo ≡ false). le_false a.pair.left.hi a.pair.left.lo t) (cases_Bool (int_le a.pair.left.hi a.pair.left.lo)) in
+    (λ (t : int_le a.pair.left.hi a.pair.left.lo ≡ false). le_false a.pair.left.hi a.pair.left.lo t) (cases_Bool (int_le a.pair.left.hi a.pair.left.lo)) in
     let x = (has_parts b.pair.right a.pair.left.lo (parts_of b a.pair.left.lo (f a.pair.left.lo (low_of a))).1).1 in
     let y = (has_parts b.pair.right (a.pair.left.lo +ℤ pos (mod_of a.pair.right)) (parts_of b (a.pair.left.lo +ℤ pos (mod_of a.pair.right)) (f (a.pair.left.lo +ℤ pos (mod_of a.pair.right)) (next_of a h apart))).1).1 in
     let d : Divides (mod_of b.pair.right) (pos (mod_of a.pair.right)) = Divides-difference (mod_of b.pair.right) (a.pair.left.lo +ℤ pos (mod_of a.pair.right) -ℤ b.pair.right.residue) (a.pair.left.lo -ℤ b.pair.right.residue) (pos (mod_of a.pair.right)) y x (omega (arith, ints)) in

@@ -5,7 +5,7 @@ use Rattle.std.proofs.Common.{refl, sym, subst, arith, ◌∙◌}
 use Rattle.std.proofs.lemmas.Int.{ints, clamps}
 use Rattle.std.proofs.lemmas.Bool.{cond_both}
 use Rattle.viper_word.specs.Words.{IsSigned, least_signed, greatest_signed}
-use Rattle.num_domain.specs.Domain.{Has, is_signed}
+use Rattle.num_domain.specs.Domain.{Has}
 use Rattle.num_domain.specs.Options.{bind}
 use Rattle.num_domain.specs.OptionLemmas.{all_bind, all_when, all_some, both_all}
 use Rattle.num_domain.specs.Tests.{le_true, le_false}

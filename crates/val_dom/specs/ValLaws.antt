@@ -1,6 +1,6 @@
 -- The laws of normal pairs, by those of pairs.
 use Rattle.std.specs.Prelude.{◌≡◌, ◌+ℤ◌, ◌-ℤ◌, neg_ℤ, ℤ, Option, Some, None, IsSomeAnd, IfSome}
-use Rattle.std.proofs.Common.{ap, subst}
+use Rattle.std.proofs.Common.{subst}
 use denote.Struct.Props.{props}
 use Rattle.viper_word.specs.Signed.{wrapped, signed_xor, signed_and, signed_nor, signed_and_not, halved, shifted_right, shifted_left}
 use Rattle.num_domain.specs.Domain.{Has, Below, BelowOption}

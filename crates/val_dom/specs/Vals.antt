@@ -1,5 +1,5 @@
 -- The domain of normal pairs, by that of pairs.
-use Rattle.std.specs.Prelude.{◌≡◌, ℕ, ◌+ℤ◌, ◌-ℤ◌, nat_abs, ℤ, pos, int_le, Bool, true, false, List, Option, Some, None, IsSomeAnd, IfSome}
+use Rattle.std.specs.Prelude.{◌≡◌, ℕ, ◌-ℤ◌, nat_abs, ℤ, pos, int_le, Bool, true, false, List, Option, Some, None, IfSome}
 use Rattle.std.specs.Int.{int_min, int_max}
 use Rattle.std.proofs.Common.{ap, subst, arith, ⊎_elim}
 use Rattle.std.proofs.Math.Nat.{eq-zero_of_zero-dvd}

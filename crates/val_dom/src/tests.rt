@@ -1,12 +1,12 @@
+use crate::Val;
 use congruence_dom::Congruence;
 use interval_dom::Interval;
 use num_domain::{NumDomain, Thresholds};
 use std::test::Fail;
 use viper_word::Kind;
 
-use crate::Val;
-
 const LOW: i64 = -2_147_483_648;
+
 const HIGH: i64 = 2_147_483_647;
 
 /// The single value of a number that a word can hold.
@@ -94,7 +94,9 @@ fn any_domain_adds(rt: HostRuntime) -> Result<(), Fail> {
 
 #[test]
 fn rounds_outward(rt: HostRuntime) -> Result<(), Fail> {
-    let thresholds = Thresholds::new(rt.alloc(), &[0, 16]).ok().ok_or("no memory")?;
+    let thresholds = Thresholds::new(rt.alloc(), &[0, 16])
+        .ok()
+        .ok_or("no memory")?;
     let rounded = all(3, 9).ok_or("3..9")?.round(&thresholds);
     assert_eq!(rt; parts(Some(rounded)), Some((0, 16, 1)));
     Ok(())
