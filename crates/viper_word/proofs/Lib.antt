@@ -1,3 +1,4 @@
 pub mod Tests
 pub mod Places
 mod MachineCases
+pub mod SignedLemmas

@@ -1,0 +1,2 @@
+pub mod CongruenceCode
+pub mod CommonCode

@@ -1,0 +1,10 @@
+use Rattle.std.proofs.Common.{arith, ◌∙◌}
+use Rattle.std.proofs.Math.Path.{ap₂}
+use Rattle.std.proofs.lemmas.Int.{ints}
+use Rattle.congruence_dom.specs.Congruences.{make}
+use Rattle.congruence_dom.proofs.congruence.CongruenceNumDomain.moved.Goals as goal
+
+pub returns : goal.returns
+returns c =
+    let a = c.args.self.now.form in
+    c.make.ensures ∙ ap₂ make c.divisor.ensures (omega (arith, ints))

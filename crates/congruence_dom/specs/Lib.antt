@@ -1,0 +1,10 @@
+pub mod Form
+pub mod Gcd
+pub mod Multiples
+pub mod Search
+pub mod Congruences
+pub mod CongruenceOrder
+pub mod CommonMembers
+pub mod Solutions
+pub mod Wraps
+pub mod CongruenceLaws

@@ -1,0 +1,15 @@
+use Rattle.std.proofs.Common.{arith, ◌≡◌, ◌∙◌, ap, sym}
+use Rattle.std.proofs.Math.Path.{ap₂}
+use Rattle.std.proofs.lemmas.Int.{ints}
+use Rattle.viper_word.specs.Signed.{signed_and_not}
+use Rattle.interval_dom.specs.Intervals.{constant, and_not_row}
+use Rattle.interval_dom.proofs.IntervalCode.{then_exact}
+use Rattle.interval_dom.proofs.interval.IntervalNumDomain.and_not.Goals as goal
+
+pub returns-then-are_single : goal.returns-then-are_single
+returns-then-are_single c =
+    let a = c.args.self.now.ends in
+    let b = c.args.other.now.ends in
+    let w = c.and_not.ensures.in_range in
+    let z : c.and_not.result ≡ signed_and_not c.args.self.now.lo c.args.other.now.lo = c.and_not.ensures.value ∙ ap₂ signed_and_not (omega (arith, ints)) (omega (arith, ints)) in
+    then_exact signed_and_not and_not_row c.args.self.now c.args.other.now c.single.result c.and_not.result (sym c.are_single.ensures ∙ c.if-are_single.true) (c.single.ensures ∙ ap constant (omega (arith, ints))) z w

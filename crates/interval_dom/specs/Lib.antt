@@ -1,0 +1,6 @@
+pub mod Bounds
+pub mod Intervals
+pub mod IntervalOrder
+pub mod IntervalRows
+pub mod IntervalRefine
+pub mod IntervalLaws

@@ -1,0 +1,3 @@
+pub mod ThresholdLemmas
+pub mod EndsLaws
+pub mod SignedCode

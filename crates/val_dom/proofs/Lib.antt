@@ -1,0 +1,2 @@
+pub mod ValCode
+pub mod ValMembers

@@ -1,0 +1,11 @@
+use Rattle.std.proofs.Common.{sym, subst}
+use Rattle.val_dom.specs.Normal.{IsNormal}
+use Rattle.val_dom.specs.Vals.{join_normal, base}
+use Rattle.val_dom.specs.ValLaws.{val_from}
+use Rattle.val_dom.proofs.val.ValNumDomain.join.Goals as goal
+
+pub invariant_of-result : goal.invariant_of-result
+invariant_of-result c = record { normal = subst IsNormal (sym (c.join.ensures)) (join_normal c.args.self.now c.args.other.now) }
+
+pub returns : goal.returns
+returns c = val_from _ (base.join c.args.self.now.pair c.args.other.now.pair) (c.join.ensures) (join_normal c.args.self.now c.args.other.now)

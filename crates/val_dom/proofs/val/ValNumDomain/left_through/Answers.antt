@@ -1,0 +1,10 @@
+use Rattle.val_dom.specs.Normal.{IsNormal}
+use Rattle.val_dom.specs.Vals.{left_through_normal}
+use Rattle.val_dom.proofs.ValCode.{wrap_is, some_of}
+use Rattle.val_dom.proofs.val.ValNumDomain.left_through.Goals as goal
+
+pub invariant_of-result : goal.invariant_of-result
+invariant_of-result c = record { normal = some_of IsNormal c.in_ok-pair.pair _ (left_through_normal c.args.self.now c.args.b) c.in_ok-pair.ensures }
+
+pub returns : goal.returns
+returns c = wrap_is _ _ (left_through_normal c.args.self.now c.args.b) c.in_ok-pair.ensures

@@ -1,0 +1,4 @@
+pub mod Normal
+pub mod Seals
+pub mod Vals
+pub mod ValLaws
