@@ -4,10 +4,9 @@ use super::whole::{read_whole, write_whole};
 use crate::memory::FailedCall;
 use crate::{Call, FetchFault, PlaceFault, Store};
 use std::alloc::Global;
-use std::fs;
-use std::io;
 use std::marker::Model;
 use std::rt::Files;
+use std::{fs, io};
 
 /// The files of a system, by their paths. It tells no content.
 #[derive(Drop)]
