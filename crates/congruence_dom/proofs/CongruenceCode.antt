@@ -97,7 +97,7 @@ form_at m r m' r' h e f = subst (λ (x : ℤ). IsForm m' x) (sym f) (subst (λ (
 
 -- ---- single values
 
-make_zero_if : (z : ℤ) (c : Congruence) → c.modulus ≡ pos 0 → c.residue ≡ z → IsSigned z → Some c ≡ make 0 z
+pub make_zero_if : (z : ℤ) (c : Congruence) → c.modulus ≡ pos 0 → c.residue ≡ z → IsSigned z → Some c ≡ make 0 z
 make_zero_if z c p q w =
     let e : z ≡ next_from 0 z least_signed = let f = reduce_zero 0 (z -ℤ least_signed) refl in omega (arith, ints) in
     make_large 0 z c (large_from 0 (λ h k. absurd (omega arith))) (subst IsSigned e w) p (q ∙ e)

@@ -1,2 +1,3 @@
 pub mod CongruenceCode
 pub mod CommonCode
+pub mod CongruenceExact

@@ -41,7 +41,7 @@ single_when : (a : Congruence) (x : ℤ) (b : Bool) → cond b (Some a.residue) 
 single_when a x true e = let f : a.residue ≡ x = cc in (refl, f)
 single_when a x false e = cc
 
-single_is : (a : Congruence) (x : ℤ) → single a ≡ Some x → (mod_of a ≡ 0) × (a.residue ≡ x)
+pub single_is : (a : Congruence) (x : ℤ) → single a ≡ Some x → (mod_of a ≡ 0) × (a.residue ≡ x)
 single_is a x e = let p = single_when a x (nat_eq (mod_of a) 0) e in (eqb-true (mod_of a) 0 p.0, p.1)
 
 pub single_from : (a : Congruence) (x : ℤ) → mod_of a ≡ 0 → a.residue ≡ x → single a ≡ Some x

@@ -62,7 +62,7 @@ next_to_divides m z n = Divides_is m (n -ℤ z -ℤ reduce m (n -ℤ z)) (next_t
 pub reduced_below : (m : ℕ) (y z : ℤ) → Divides m (y -ℤ z) → Divides m (y -ℤ reduce m z)
 reduced_below m y z h = Divides-sum m (y -ℤ z) (z -ℤ reduce m z) (y -ℤ reduce m z) h (reduce_divides m z) (omega (arith, ints))
 
--- at a large modulus, or at 0, there is one member in W at most
+-- at a large modulus, or at 0, there is at most one member that a word can hold
 pub alone : (m : ℕ) (z n : ℤ) → is_small m ≡ false → IsSigned n → Divides m (n -ℤ z) → next_from m z least_signed ≡ n
 alone m z n e w d =
     let k = next_from m z least_signed in

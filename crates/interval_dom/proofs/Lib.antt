@@ -1,1 +1,2 @@
 pub mod IntervalCode
+pub mod IntervalExact

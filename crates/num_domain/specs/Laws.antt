@@ -6,7 +6,7 @@ use Rattle.viper_word.specs.declared.kind.Kind.{Kind}
 use Rattle.num_domain.specs.Domain.{Domain, Has, Below, BelowOption, LeFlag, MayBe}
 use Rattle.num_domain.specs.Ranges.{IsRange, InRange, OnStep}
 
--- the value has each result in W of the members
+-- the answer has each result of the members that a word can hold
 abbrev pub Sound1 : {A : Type 0} → Domain A → (A → Option A) → (ℤ → ℤ) → Type 0
 Sound1 {A} d f op = (a : A) (x : ℤ) → Has d a x → IsSigned (op x) → IsSomeAnd (f a) (λ r. Has d r (op x))
 

@@ -12,3 +12,4 @@ pub mod PairLaws
 pub mod Ends
 pub mod RoundingLaws
 pub mod StepLaws
+pub mod ExactRule

@@ -1,2 +1,3 @@
 pub mod ValCode
 pub mod ValMembers
+pub mod ValExact

@@ -1,5 +1,5 @@
 -- The domain of normal pairs, by that of pairs.
-use Rattle.std.specs.Prelude.{◌≡◌, ℕ, ◌-ℤ◌, nat_abs, ℤ, pos, int_le, Bool, true, false, List, Option, Some, None, IfSome}
+use Rattle.std.specs.Prelude.{◌≡◌, ℕ, ◌-ℤ◌, nat_abs, ℤ, pos, int_le, Bool, true, false, List, Option, Some, None, IfSome, cond}
 use Rattle.std.specs.Int.{int_min, int_max}
 use Rattle.std.proofs.Common.{ap, subst, arith, ⊎_elim}
 use Rattle.std.proofs.Math.Nat.{eq-zero_of_zero-dvd}
@@ -146,6 +146,10 @@ joined_normal a (Some s) h = join_normal a (val s h)
 
 pub round_normal : (a : Val) (ts : List ℤ) → IsNormal (base.round a.pair ts)
 round_normal a ts = joined_normal a (seal intervals congruences (pair (intervals.round a.pair.left ts) (congruences.round a.pair.right ts))) (seal_normal (pair (intervals.round a.pair.left ts) (congruences.round a.pair.right ts)))
+
+-- the number of a single value
+abbrev pub single : Val → Option ℤ
+single v = cond (int_le v.pair.left.hi v.pair.left.lo) (Some v.pair.left.lo) None
 
 -- each function is that of the pair
 abbrev pub vals : Domain Val

@@ -153,3 +153,14 @@ impl NumDomain for Val {
 
     ghost laws = { val_laws };
 }
+
+impl Val {
+    ghost use Rattle.num_domain.specs.ExactRule.{IsExact};
+    ghost use Rattle.val_dom.specs.Vals.{single, vals};
+
+    /// The exact rule: of single values each function of arithmetic, bits and shifts gives the exact
+    /// result as a single value, or None where no word can hold it.
+    pub fn exact_rule()
+        ensures { IsExact vals single }
+    {}
+}
