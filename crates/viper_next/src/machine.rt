@@ -1,4 +1,4 @@
-ghost use Rattle.std.specs.Prelude.{◌≡◌, ◌<◌, ◌^◌, ℕ, length, IfOk, slice_index, slice_set};
+ghost use Rattle.std.specs.Prelude.{◌≡◌, ℕ, length, IfOk, slice_index, slice_set};
 ghost use Rattle.viper_word.specs.Machine.{IsState, wants};
 ghost use Rattle.viper_next.specs.Fresh.{IsFresh};
 
@@ -7,7 +7,7 @@ mod step;
 use crate::instruction::{is_input, is_skipped};
 use std::alloc::{AllocError, Global};
 use std::marker::Model;
-use viper_decode::{Fields, decode, legal};
+use viper_decode::legal;
 use viper_word::{Addr, Memory, Word};
 
 /// How many words the memory has.
