@@ -1,2 +1,3 @@
 pub mod FunctionLemmas
 pub mod EffectLemmas
+pub mod AnswerLemmas

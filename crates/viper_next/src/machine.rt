@@ -1,13 +1,14 @@
-ghost use Rattle.std.specs.Prelude.{◌≡◌, ◌<◌, ◌^◌, ℕ, length, IfOk, slice_index, slice_set};
+ghost use Rattle.std.specs.Prelude.{◌≡◌, ℕ, length, IfOk, IfNone, slice_index, slice_set};
 ghost use Rattle.viper_word.specs.Machine.{IsState, wants};
 ghost use Rattle.viper_next.specs.Fresh.{IsFresh};
+ghost use Rattle.viper_next.specs.Answers.{IgnoresAnswer};
 
 mod step;
 
 use crate::instruction::{is_input, is_skipped};
 use std::alloc::{AllocError, Global};
 use std::marker::Model;
-use viper_decode::{Fields, decode, legal};
+use viper_decode::legal;
 use viper_word::{Addr, Memory, Word};
 
 /// How many words the memory has.
@@ -131,9 +132,10 @@ impl Machine {
     }
 
     /// The peripheral address that the next step reads. None exactly where it reads none.
-    #[tactic(auto, unfolding(viper_word::specs::Machine::wants, viper_word::specs::Machine::is_performed))]
+    #[tactic(auto, using(crate::proofs::AnswerLemmas::answer_ignored), unfolding(viper_word::specs::Machine::wants, viper_word::specs::Machine::is_performed))]
     pub fn wants(&self) -> Option<Addr>
-        ensures { result ≡ wants self.now }
+        ensures address { result ≡ wants self.now }
+        ensures unread { IfNone result (IgnoresAnswer self.now) }
     {
         if self.stop || self.p.get() == LAST {
             return None;

@@ -1,4 +1,4 @@
-ghost use Rattle.std.specs.Prelude.{◌≡◌, ◌<◌, ◌+◌, ◌-◌, ◌%◌, ◌^◌, nat_lt, nat_le, ◌+ℤ◌, ◌-ℤ◌, MatchOption, Some, None, option_map, if◌then◌else◌};
+ghost use Rattle.std.specs.Prelude.{◌≡◌, ◌+◌, ◌-◌, ◌%◌, ◌^◌, nat_lt, nat_le, ◌+ℤ◌, ◌-ℤ◌, MatchOption, option_map, if◌then◌else◌};
 ghost use Rattle.viper_word.specs.Words.{signed_value, IsSigned};
 ghost use Rattle.viper_word.specs.Machine.{is_signed};
 

@@ -1,7 +1,7 @@
-ghost use Rattle.std.specs.Prelude.{◌≡◌, ◌<◌, ◌^◌, ◌-◌, not, ◌&&◌, nat_lt, true, false, IfOk, IfErr, OnOk, OnErr, Ok, Err, Option};
+ghost use Rattle.std.specs.Prelude.{◌≡◌, ◌<◌, ◌^◌, ◌-◌, not, ◌&&◌, true, false, IfOk, IfErr, OnOk, OnErr};
 ghost use Rattle.viper_word.specs.Fields.{is_illegal, is_function, is_shift, has_address, is_jump};
-ghost use Rattle.viper_word.specs.Machine.{IsState, Computed as Outcome, current, register, address, is_lawful, operand, is_skipped, written, finished, computed, performed, executed, step, halted, next};
-ghost use Rattle.viper_next.specs.Effects.{effect_at, effect_of, effect_of_step};
+ghost use Rattle.viper_word.specs.Machine.{IsState, current, register, address, is_lawful, operand, computed, written, finished, performed, executed, step, next};
+ghost use Rattle.viper_next.specs.Effects.{effect_at, effect_of};
 
 use super::{LAST, Machine};
 use crate::computing::{Computed, compared, compute};
