@@ -1,3 +1,4 @@
 pub mod CongruenceCode
 pub mod CommonCode
 pub mod CongruenceExact
+pub mod CommonRow

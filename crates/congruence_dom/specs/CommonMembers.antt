@@ -118,6 +118,14 @@ refine_eq_mono a a' b b' h k =
     all_bind (λ i. AreCommon a b i × (least_signed ≤ℤ i)) (λ r. IsSomeAnd (refine_eq a' b') (λ r'. Below congruences r r')) (next_common a b least_signed) _ (next_is a b least_signed)
     (λ i p. through_below a b i (next_common a b (i +ℤ pos 1)) p.0 (next_is a b (i +ℤ pos 1)) a' b' h k)
 
+-- ---- the congruence of the common members
+
+-- r has the common members and no others, and is single where there is only one
+pub record AreCommonMembers (a b r : Congruence) : Type 0 where
+  pub each : (n : ℤ) → Has congruences r n → AreCommon a b n
+  pub all : (n : ℤ) → AreCommon a b n → Has congruences r n
+  pub alone : ((m n : ℤ) → AreCommon a b m → AreCommon a b n → m ≡ n) → r.modulus ≡ pos 0
+
 -- ---- what is known of the first common member from n on
 
 pub record IsNextCommon (a b : Congruence) (n : ℤ) (o : Option ℤ) : Type 0 where

@@ -1,4 +1,4 @@
-ghost use Rattle.std.specs.Prelude.{◌≡◌};
+ghost use Rattle.std.specs.Prelude.{◌≡◌, ℤ, IfSome};
 ghost use Rattle.congruence_dom.specs.Form.{IsForm};
 
 use num_domain::{NumDomain, Thresholds, signed};
@@ -20,7 +20,8 @@ pub struct Congruence {
 }
 
 impl NumDomain for Congruence {
-    ghost use Rattle.congruence_dom.specs.Congruences.{congruences};
+    ghost use Rattle.congruence_dom.specs.CommonMembers.{AreCommon, AreCommonMembers};
+    ghost use Rattle.congruence_dom.specs.Congruences.{congruences, refine};
     ghost use Rattle.congruence_dom.specs.CongruenceLaws.{congruence_laws};
 
     ghost domain = { congruences };
@@ -139,7 +140,11 @@ impl NumDomain for Congruence {
     }
 
     #[tactic(auto, unfolding(crate::specs::Congruences::refine))]
-    fn refine(&self, kind: Kind, other: &Congruence) -> Option<Congruence> {
+    fn refine(&self, kind: Kind, other: &Congruence) -> Option<Congruence>
+        ensures row { result ≡ refine self.now kind other.now }
+        ensures common { kind ≡ Kind.Eq → IfSome result (AreCommonMembers self.now other.now) }
+        ensures none { kind ≡ Kind.Eq → result ≡ None → (n : ℤ) → AreCommon self.now other.now n → ⊥ }
+    {
         match kind {
             Kind::Eq => self.common(other),
             Kind::Lt => Some(*self),
