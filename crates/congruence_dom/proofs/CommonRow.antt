@@ -1,11 +1,10 @@
 -- Refining by equality gives the common members, and a single value where there is one.
-use Rattle.std.specs.Prelude.{◌≡◌, ◌<◌, ◌^◌, ℤ, pos, ◌+ℤ◌, ◌-ℤ◌, ◌≤ℤ◌, ◌<ℤ◌, nat_abs, Bool, true, false, Option, Some, None, IsSomeAnd, IfSome}
-use Rattle.std.proofs.Common.{refl, sym, subst, arith}
+use Rattle.std.specs.Prelude.{◌≡◌, ℤ, pos, ◌+ℤ◌, ◌-ℤ◌, ◌≤ℤ◌, nat_abs, Bool, true, false, Option, Some, None, IsSomeAnd, IfSome}
+use Rattle.std.proofs.Common.{refl, arith}
 use Rattle.std.proofs.lemmas.Int.{ints}
 use Rattle.viper_word.specs.Words.{least_signed}
 use Rattle.num_domain.specs.Domain.{Has, Below, BelowOption}
-use Rattle.num_domain.specs.Options.{bind}
-use Rattle.num_domain.specs.OptionLemmas.{all_bind, all_some}
+use Rattle.num_domain.specs.OptionLemmas.{all_bind}
 use Rattle.congruence_dom.specs.Form.{IsForm}
 use Rattle.congruence_dom.specs.Multiples.{Divides, Divides-difference}
 use Rattle.congruence_dom.specs.Congruences.{mod_of, make, congruence_if, next_common, through, refine_eq, congruences}

@@ -1,5 +1,5 @@
 -- Congruences keep the exact rule.
-use Rattle.std.specs.Prelude.{◌≡◌, ℕ, ◌*◌, ◌/◌, ◌%◌, ◌^◌, ◌<◌, ◌≤◌, ◌-◌, ℤ, pos, ◌+ℤ◌, ◌-ℤ◌, neg_ℤ, ◌≤ℤ◌, Bool, true, false, cond, nat_eq, Option, Some, None, IsSomeAnd}
+use Rattle.std.specs.Prelude.{◌≡◌, ℕ, ◌*◌, ◌/◌, ◌%◌, ◌^◌, ℤ, pos, ◌+ℤ◌, ◌-ℤ◌, neg_ℤ, Bool, true, false, cond, nat_eq, Option, Some, None, IsSomeAnd}
 use Rattle.std.proofs.Common.{refl, sym, ap, subst, arith, ⊎_elim, ◌∙◌}
 use Rattle.std.proofs.Math.Path.{ap₂}
 use Rattle.std.proofs.Math.Nat.{dvd_antisymm, dvd_refl, dvd-zero}
@@ -14,7 +14,7 @@ use Rattle.num_domain.specs.Exact.{one}
 use Rattle.num_domain.specs.ExactRule.{IsExact}
 use Rattle.num_domain.specs.Tests.{is_signed_true}
 use Rattle.congruence_dom.specs.Gcd.{gcd, gcd_right, gcd_greatest}
-use Rattle.congruence_dom.specs.Multiples.{Divides, Divides_is, Divides-zero}
+use Rattle.congruence_dom.specs.Multiples.{Divides_is, Divides-zero}
 use Rattle.congruence_dom.specs.Wraps.{wrapped_divides}
 use Rattle.congruence_dom.specs.Congruences.{mod_of, make, congruence, single_form, next_from, reduce_zero, top, single, constant, sar, left_through, congruences}
 use Rattle.congruence_dom.specs.CongruenceOrder.{make_has, alone}

@@ -1,17 +1,16 @@
 -- Intervals keep the exact rule.
-use Rattle.std.specs.Prelude.{◌≡◌, ℤ, ◌+ℤ◌, ◌-ℤ◌, neg_ℤ, ◌≤ℤ◌, Bool, true, false, Option, Some, None, IsSomeAnd, IfSome}
-use Rattle.std.specs.Int.{int_min, int_max}
-use Rattle.std.proofs.Common.{refl, sym, arith, ⊎_elim, ◌∙◌}
+use Rattle.std.specs.Prelude.{◌≡◌, ℤ, ◌+ℤ◌, ◌-ℤ◌, true, false, Option, Some, None, IsSomeAnd, IfSome}
+use Rattle.std.proofs.Common.{refl, arith, ⊎_elim, ◌∙◌}
 use Rattle.std.proofs.Math.Path.{ap₂}
 use Rattle.std.proofs.lemmas.Int.{ints, clamps}
 use Rattle.std.proofs.lemmas.Bool.{cases_Bool}
-use Rattle.viper_word.specs.Words.{IsSigned, least_signed, greatest_signed}
-use Rattle.viper_word.specs.Signed.{wrapped, signed_xor, signed_and, signed_nor, signed_and_not, halved, shifted_right, shifted_left}
+use Rattle.viper_word.specs.Words.{IsSigned}
+use Rattle.viper_word.specs.Signed.{halved}
 use Rattle.num_domain.specs.Domain.{Has, is_signed}
 use Rattle.num_domain.specs.Options.{or_else}
 use Rattle.num_domain.specs.Exact.{one}
 use Rattle.num_domain.specs.ExactRule.{IsExact}
-use Rattle.num_domain.specs.Tests.{is_signed_true, not_signed, true_is_signed}
+use Rattle.num_domain.specs.Tests.{is_signed_true, true_is_signed}
 use Rattle.interval_dom.specs.Intervals.{cut, top, single, constant, intervals}
 use Rattle.interval_dom.specs.IntervalOrder.{cut_has, cut_all, single_is}
 use Rattle.interval_dom.specs.declared.interval.Interval.{Interval}

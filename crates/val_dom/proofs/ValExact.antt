@@ -1,16 +1,15 @@
 -- Values keep the exact rule, by their factors.
-use Rattle.std.specs.Prelude.{◌≡◌, ℕ, ℤ, pos, ◌+ℤ◌, ◌-ℤ◌, neg_ℤ, ◌≤ℤ◌, int_le, Bool, true, false, cond, Option, Some, None, IsSomeAnd, IfSome}
-use Rattle.std.proofs.Common.{refl, sym, ap, subst, arith, ⊎_elim, ◌∙◌}
+use Rattle.std.specs.Prelude.{◌≡◌, ℤ, ◌+ℤ◌, ◌-ℤ◌, neg_ℤ, int_le, Bool, true, false, cond, Option, Some, None, IsSomeAnd, IfSome}
+use Rattle.std.proofs.Common.{refl, sym, ap, arith, ⊎_elim, ◌∙◌}
 use Rattle.std.proofs.Math.Path.{ap₂}
 use Rattle.std.proofs.lemmas.Int.{ints}
 use Rattle.std.proofs.lemmas.Bool.{cases_Bool}
-use Rattle.viper_word.specs.Words.{IsSigned}
 use Rattle.viper_word.specs.Signed.{wrapped, signed_xor, signed_and, signed_nor, signed_and_not, halved, shifted_right, shifted_left}
 use Rattle.num_domain.specs.Domain.{Has, is_signed}
 use Rattle.num_domain.specs.Options.{bind, or_else}
 use Rattle.num_domain.specs.Exact.{one}
 use Rattle.num_domain.specs.ExactRule.{IsExact}
-use Rattle.num_domain.specs.Tests.{le_true, true_le, is_signed_true}
+use Rattle.num_domain.specs.Tests.{le_true, is_signed_true}
 use Rattle.num_domain.specs.Pairs.{pair, both, seal}
 use Rattle.num_domain.specs.PairLaws.{both_has, seal_has}
 use Rattle.interval_dom.specs.Intervals.{intervals}
