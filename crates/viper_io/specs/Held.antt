@@ -25,6 +25,10 @@ pub record SureShelfState : Type 0 where
   pub contents : Contents
   pub longs : ℕ
 
+-- what the names of such a shelf hold
+abbrev pub sure_holds : SureShelfState → List ℕ → Option (List ℕ)
+sure_holds shelf name = Some (content_or_empty shelf.contents name)
+
 -- a shelf: what it holds, the numbers of the calls that are to fail, how many calls there were, which of them failed, and how often a content was too long
 pub record ShelfState : Type 0 where
   pub contents : Contents

@@ -1,5 +1,6 @@
-ghost use Rattle.std.specs.Prelude.{◌≡◌, ◌≢◌, ◌≤◌, ◌⊎◌, ℕ, List, map, Some, None, Option, Bool, take, codes};
+ghost use Rattle.std.specs.Prelude.{◌≡◌, ◌≢◌, ◌≤◌, ◌⊎◌, ℕ, List, map, Some, None, Option, Bool, true, take, codes};
 ghost use Rattle.viper_io.specs.Causes.{Failure, Rose, SameContents, Wrote};
+ghost use Rattle.viper_io.specs.Held.{sure_holds};
 ghost use Rattle.viper_top.specs.CommandLine.{Names, names_of, row_names};
 ghost use Rattle.viper_top.specs.Answers.{Said, answer_view, verdict_answer, Answered, EndsAnswered, AnswersRow, RowFailed};
 ghost use Rattle.memory_plan.specs.Plans.{PlanLines};
@@ -102,9 +103,14 @@ pub fn viper_main<S: Store, K: Sink>(
     answer_words(alloc, words, store, out)
 }
 
-/// Over a shelf and a page that never fail Outside never comes.
+/// `viper_main` over a shelf and a page that never fail: Outside never comes.
 pub fn sure_main(alloc: Global, words: &[&str], store: &mut SureShelf, out: &mut SurePage) -> Status
-    ensures { result ≢ Status.Outside }
+    ensures sure { result ≢ Status.Outside }
+    ensures done { result ≡ Status.Done → Headline true (sure_holds store.old) (names_of (map (λ w. w.now) words.now)) (Some out.old) (Some out.new) }
+    ensures answered { EndsAnswered result → AnswersRow true (sure_holds store.old) (names_of (map (λ w. w.now) words.now)) store.old.longs store.new.longs result (Some out.old) (Some out.new) }
+    ensures usage { result ≡ Status.Usage → (names_of (map (λ w. w.now) words.now) ≡ None) × Wrote (Some out.old) (codes "usage\n") (Some out.new) }
+    ensures memory { result ≡ Status.Memory → out.new ≡ out.old }
+    ensures same { SameContents sure_holds store.old store.new }
 {
     viper_main(alloc, words, store, out)
 }

@@ -54,11 +54,11 @@ impl SureShelf {
 }
 
 impl Store for SureShelf {
-    ghost use Rattle.viper_io.specs.Held.{content_or_empty};
+    ghost use Rattle.viper_io.specs.Held.{sure_holds};
 
     ghost tells = { λ _. true };
 
-    ghost holds = { λ s name. Some (content_or_empty s.contents name) };
+    ghost holds = { sure_holds };
 
     ghost failures = { λ _. [] };
 
