@@ -4,8 +4,8 @@ use Rattle.std.proofs.Common.{refl, sym, ap, subst, arith, ⊎_elim, ◌∙◌}
 use Rattle.std.proofs.Math.Nat.{le_of_dvd, eq-zero_of_zero-dvd, mod-zero}
 use Rattle.std.proofs.lemmas.Int.{ints}
 use Rattle.std.proofs.lemmas.Bool.{cases_Bool, false≢true, eqb-true}
-use Rattle.viper_word.specs.Words.{least_signed, greatest_signed, IsSigned}
-use Rattle.num_domain.specs.Domain.{is_signed, Has}
+use Rattle.viper_word.specs.Words.{least_signed, greatest_signed, IsSigned, is_signed}
+use Rattle.num_domain.specs.Domain.{Has}
 use Rattle.num_domain.specs.Options.{or_else}
 use Rattle.num_domain.specs.Ranges.{IsRange}
 use Rattle.num_domain.specs.Exact.{exact2}

@@ -5,10 +5,10 @@ use Rattle.std.proofs.Math.Path.{ap₂}
 use Rattle.std.proofs.Math.Nat.{dvd_antisymm, dvd_refl, dvd-zero}
 use Rattle.std.proofs.lemmas.Int.{ints}
 use Rattle.std.proofs.lemmas.Bool.{cases_Bool}
-use Rattle.viper_word.specs.Words.{IsSigned, least_signed}
+use Rattle.viper_word.specs.Words.{IsSigned, least_signed, is_signed}
 use Rattle.viper_word.specs.Signed.{wrapped, halved, shifted_left}
 use Rattle.viper_word.proofs.SignedLemmas.{wrapped_in_w}
-use Rattle.num_domain.specs.Domain.{Has, is_signed}
+use Rattle.num_domain.specs.Domain.{Has}
 use Rattle.num_domain.specs.Options.{or_else}
 use Rattle.num_domain.specs.Exact.{one}
 use Rattle.num_domain.specs.ExactRule.{IsExact}

@@ -7,8 +7,8 @@ use Rattle.std.proofs.Math.Nat.{dvd_trans, dvd-zero, dvd_antisymm, le_of_dvd, dv
 use Rattle.std.proofs.lemmas.Int.{ints, clamps}
 use Rattle.std.proofs.lemmas.Bool.{and_parts, and_from, cases_Bool, false≢true, eqb-true, cond_both}
 use Rattle.std.proofs.lemmas.Bool.Decides.{nat_tests}
-use Rattle.viper_word.specs.Words.{least_signed, greatest_signed, IsSigned}
-use Rattle.num_domain.specs.Domain.{is_signed, Has, Below, BelowOption}
+use Rattle.viper_word.specs.Words.{least_signed, greatest_signed, IsSigned, is_signed}
+use Rattle.num_domain.specs.Domain.{Has, Below, BelowOption}
 use Rattle.num_domain.specs.OptionLemmas.{some_bind, all_bind, some_when, all_when, some_some}
 use Rattle.num_domain.specs.Tests.{le_true, le_false, true_le, lt_false, is_signed_true, true_is_signed}
 use Rattle.congruence_dom.specs.Gcd.{gcd, gcd_greatest}

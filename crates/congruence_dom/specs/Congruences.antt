@@ -5,11 +5,11 @@ use Rattle.std.proofs.Common.{refl, arith, ⊎_elim, inl, inr}
 use Rattle.std.proofs.Math.Nat.{dvd_trans, le_of_dvd, dvd_refl, eq-zero_of_zero-dvd}
 use Rattle.std.proofs.lemmas.Int.{ints}
 use Rattle.std.proofs.lemmas.Bool.{and_parts, and_from, and_cases, cases_Bool, eqb-true, eqb-false, leb-true, leb-false, ltb-true, ltb-false, lt-ltb, le-leb, cond_both}
-use Rattle.viper_word.specs.Words.{least_signed, greatest_signed, IsSigned}
+use Rattle.viper_word.specs.Words.{least_signed, greatest_signed, IsSigned, is_signed}
 use Rattle.viper_word.specs.Signed.{signed_xor, signed_and, signed_nor, signed_and_not, halved, shifted_right}
 use Rattle.viper_word.specs.declared.kind.Kind.{Kind}
 use Rattle.viper_word.specs.declared.kind.Kind.TheVariants.{Eq}
-use Rattle.num_domain.specs.Domain.{is_signed, Domain}
+use Rattle.num_domain.specs.Domain.{Domain}
 use Rattle.num_domain.specs.Options.{bind, or_else}
 use Rattle.num_domain.specs.Exact.{exact2, exact_flag}
 use Rattle.num_domain.specs.Tests.{is_signed_true}

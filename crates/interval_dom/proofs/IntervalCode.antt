@@ -6,12 +6,11 @@ use Rattle.std.proofs.Math.Path.{ap₂}
 use Rattle.std.proofs.Common.{refl, sym, ap, subst, arith, ⊎_elim, ◌∙◌}
 use Rattle.std.proofs.lemmas.Int.{ints, clamps}
 use Rattle.std.proofs.lemmas.Bool.{and_parts, and_cases, false≢true, cond_both}
-use Rattle.viper_word.specs.Words.{IsSigned, least_signed, greatest_signed}
+use Rattle.viper_word.specs.Words.{IsSigned, least_signed, greatest_signed, is_signed}
 use Rattle.num_domain.specs.Options.{or_else}
 use Rattle.num_domain.specs.Exact.{exact1, exact2}
 use Rattle.num_domain.specs.ExactLaws.{exact1_single, exact1_row, exact2_single, exact2_first, exact2_second}
 use Rattle.num_domain.specs.Tests.{le_true, le_false}
-use Rattle.num_domain.specs.Domain.{is_signed}
 use Rattle.viper_word.specs.declared.kind.Kind.{Kind}
 use Rattle.viper_word.specs.declared.kind.Kind.TheVariants.{Lt, Gt, Ult}
 use Rattle.interval_dom.specs.Intervals.{cut, top, fits, single, constant, hull, without, left_row, least_bit, greatest_bit, power_above, negative_to, natural_to, refine, intervals}

@@ -4,9 +4,9 @@ use Rattle.std.proofs.Common.{refl, arith, ⊎_elim, ◌∙◌}
 use Rattle.std.proofs.Math.Path.{ap₂}
 use Rattle.std.proofs.lemmas.Int.{ints, clamps}
 use Rattle.std.proofs.lemmas.Bool.{cases_Bool}
-use Rattle.viper_word.specs.Words.{IsSigned}
+use Rattle.viper_word.specs.Words.{IsSigned, is_signed}
 use Rattle.viper_word.specs.Signed.{halved}
-use Rattle.num_domain.specs.Domain.{Has, is_signed}
+use Rattle.num_domain.specs.Domain.{Has}
 use Rattle.num_domain.specs.Options.{or_else}
 use Rattle.num_domain.specs.Exact.{one}
 use Rattle.num_domain.specs.ExactRule.{IsExact}

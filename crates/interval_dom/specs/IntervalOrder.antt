@@ -5,10 +5,10 @@ use Rattle.std.proofs.Common.{refl, sym, ap, subst, arith}
 use Rattle.std.proofs.Math.Dec.{T_prop}
 use Rattle.std.proofs.lemmas.Int.{ints, clamps}
 use Rattle.std.proofs.lemmas.Bool.{and_parts, and_from, false≢true, cond_both}
-use Rattle.viper_word.specs.Words.{IsSigned, least_signed, greatest_signed}
+use Rattle.viper_word.specs.Words.{IsSigned, least_signed, greatest_signed, is_signed}
 use Rattle.viper_word.specs.Signed.{wrapped}
 use Rattle.viper_word.proofs.SignedLemmas.{wrapped_is, wrapped_in_w}
-use Rattle.num_domain.specs.Domain.{Has, Below, BelowOption, is_signed}
+use Rattle.num_domain.specs.Domain.{Has, Below, BelowOption}
 use Rattle.num_domain.specs.Options.{or_else}
 use Rattle.num_domain.specs.Exact.{SingleLaws}
 use Rattle.num_domain.specs.OptionLemmas.{some_or_else}

@@ -6,10 +6,10 @@ use Rattle.std.proofs.Math.Nat.{pow-le-pow_right}
 use Rattle.std.proofs.lemmas.Nat.{leading_length}
 use Rattle.std.proofs.lemmas.Int.{ints, clamps}
 use Rattle.std.proofs.lemmas.Bool.{and_parts, and_from, false≢true, cond_both, cases_Bool, leb-true, leb-false}
-use Rattle.viper_word.specs.Words.{IsSigned, least_signed, greatest_signed}
+use Rattle.viper_word.specs.Words.{IsSigned, least_signed, greatest_signed, is_signed}
 use Rattle.viper_word.specs.Signed.{signed_xor, signed_and, signed_nor, signed_and_not, halved, shifted_right, shifted_left}
 use Rattle.viper_word.proofs.SignedLemmas.{signed_and_left, signed_and_right, signed_and_not_left, signed_xor_below, signed_nor_above, halved_twice, shifted_right_set, shifted_right_clear, shifted_right_halved, shifted_left_is}
-use Rattle.num_domain.specs.Domain.{Has, Below, BelowOption, LeFlag, MayBe, is_signed}
+use Rattle.num_domain.specs.Domain.{Has, Below, BelowOption, LeFlag, MayBe}
 use Rattle.num_domain.specs.Laws.{Sound2, SoundFlag, Mono2, MonoFlag}
 use Rattle.num_domain.specs.Tests.{le_true, true_le, is_signed_true, true_is_signed}
 use Rattle.interval_dom.specs.Intervals.{cut, top, and_row, power_above, power_of, xor_row, nor_row, and_not_row, right_row, left_row, least_bit, greatest_bit, intervals}

@@ -4,11 +4,11 @@ use Rattle.std.specs.Ordering.{int_eq}
 use Rattle.std.specs.Int.{w32, int_min, int_max, leading_zeros}
 use Rattle.std.proofs.Common.{refl, arith}
 use Rattle.std.proofs.lemmas.Int.{ints, clamps}
-use Rattle.viper_word.specs.Words.{least_signed, greatest_signed}
+use Rattle.viper_word.specs.Words.{least_signed, greatest_signed, is_signed}
 use Rattle.viper_word.specs.Signed.{wrapped, signed_xor, signed_and, signed_nor, signed_and_not, halved, shifted_right, shifted_left}
 use Rattle.viper_word.specs.declared.kind.Kind.{Kind}
 use Rattle.viper_word.specs.declared.kind.Kind.TheVariants.{Lt, Ge, Eq, Ne, Le, Gt, Ult, Uge}
-use Rattle.num_domain.specs.Domain.{Domain, is_signed}
+use Rattle.num_domain.specs.Domain.{Domain}
 use Rattle.num_domain.specs.Options.{or_else}
 use Rattle.num_domain.specs.Exact.{exact1, exact2, exact_flag}
 use Rattle.num_domain.specs.Rounding.{below, above}

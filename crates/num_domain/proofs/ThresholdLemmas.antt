@@ -4,14 +4,13 @@ use Rattle.std.specs.Int.{int_min, int_max}
 use Rattle.std.proofs.Common.{refl, sym, ◌∙◌, arith, zero, suc, ⊎_elim, inl, inr}
 use Rattle.std.proofs.lemmas.Int.{ints, clamps}
 use Rattle.std.proofs.lemmas.Bool.{cond_both, cases_Bool, leb-true, leb-false, false≢true}
-use Rattle.viper_word.specs.Words.{IsSigned, least_signed, greatest_signed}
+use Rattle.viper_word.specs.Words.{IsSigned, least_signed, greatest_signed, is_signed}
 use Rattle.std.specs.List.{All}
 use Rattle.std.specs.List.Sorted.{IsPermutation, IsSorted}
 use Rattle.std.specs.Ordering.{is_lt, int_cmp}
 use Rattle.std.proofs.lemmas.Cmp.{int_cmp_total}
 use Rattle.std.proofs.lemmas.List.Elements.{All-nil, All-cons, All-append, All-weaker, All-get_or, Contains-append_right, Contains-get_or, at_from_Contains, filter_passes}
 use Rattle.std.proofs.lemmas.List.Sorted.{All-permutation, Contains-permutation, ranks_by, sorted_far}
-use Rattle.num_domain.specs.Domain.{is_signed}
 use Rattle.num_domain.specs.Rounding.{with_ends, below, above, IsThresholds}
 use Rattle.num_domain.specs.Tests.{le_true, le_false, is_signed_true}
 

@@ -1,11 +1,6 @@
 -- What each function of a numeric domain means.
-use Rattle.std.specs.Prelude.{◌≡◌, ℕ, ℤ, int_le, Bool, true, ◌&&◌, Option, Some, None, IsSomeAnd, IfSome, List}
-use Rattle.viper_word.specs.Words.{least_signed, greatest_signed}
+use Rattle.std.specs.Prelude.{◌≡◌, ℕ, ℤ, Bool, true, Option, Some, None, IsSomeAnd, IfSome, List}
 use Rattle.viper_word.specs.declared.kind.Kind.{Kind}
-
--- is the number the signed value of a word?
-abbrev pub is_signed : ℤ → Bool
-is_signed n = int_le least_signed n && int_le n greatest_signed
 
 -- an unknown flag is above a known one
 abbrev pub LeFlag : Option Bool → Option Bool → Type 0

@@ -1,6 +1,7 @@
 -- The exact rule: where all arguments are single values, the answer is the exact result.
 use Rattle.std.specs.Prelude.{◌≡◌, ℤ, Bool, cond, Option, Some, None}
-use Rattle.num_domain.specs.Domain.{is_signed, Domain, Has, Below}
+use Rattle.viper_word.specs.Words.{is_signed}
+use Rattle.num_domain.specs.Domain.{Domain, Has, Below}
 
 -- which values are single
 pub record SingleLaws {A : Type 0} (d : Domain A) (single : A → Option ℤ) : Type 0 where

@@ -2,8 +2,8 @@
 use Rattle.std.specs.Prelude.{◌≡◌, ℤ, Bool, Option, Some, None, IsSomeAnd}
 use Rattle.std.proofs.Common.{refl, sym, subst, ap, ◌∙◌}
 use Rattle.std.proofs.Math.Path.{ap₂}
-use Rattle.viper_word.specs.Words.{IsSigned}
-use Rattle.num_domain.specs.Domain.{is_signed, Domain, Has, Below, BelowOption, LeFlag, MayBe}
+use Rattle.viper_word.specs.Words.{IsSigned, is_signed}
+use Rattle.num_domain.specs.Domain.{Domain, Has, Below, BelowOption, LeFlag, MayBe}
 use Rattle.num_domain.specs.Laws.{OrderLaws, Sound1, Sound2, SoundFlag, Mono1, Mono2, MonoFlag}
 use Rattle.num_domain.specs.Exact.{SingleLaws, one, exact1_when, exact2_when, exact_flag_when, exact1, exact2, exact_flag}
 use Rattle.num_domain.specs.OptionLemmas.{some_when, all_when, some_some}

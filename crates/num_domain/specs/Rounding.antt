@@ -1,8 +1,7 @@
 -- Numbers to round to.
 use Rattle.std.specs.Prelude.{◌≡◌, ℕ, ◌<◌, ◌≤◌, ◌-◌, ℤ, pos, ◌≤ℤ◌, ◌<ℤ◌, int_le, cond, List, [], ◌∷◌, ◌++◌, length, filter, slice_index_or}
 use Rattle.std.specs.Int.{int_min, int_max}
-use Rattle.viper_word.specs.Words.{least_signed, greatest_signed}
-use Rattle.num_domain.specs.Domain.{is_signed}
+use Rattle.viper_word.specs.Words.{least_signed, greatest_signed, is_signed}
 
 -- the numbers that words can hold, and both ends of them
 abbrev pub with_ends : List ℤ → List ℤ

@@ -3,8 +3,7 @@ use Rattle.std.specs.Prelude.{◌≡◌, ℤ, ◌≤ℤ◌, ◌<ℤ◌, int_le, 
 use Rattle.std.proofs.Common.{arith, ⊎_elim}
 use Rattle.std.proofs.lemmas.Int.{ints}
 use Rattle.std.proofs.lemmas.Bool.{and_parts, and_from, cases_Bool}
-use Rattle.viper_word.specs.Words.{IsSigned, least_signed, greatest_signed}
-use Rattle.num_domain.specs.Domain.{is_signed}
+use Rattle.viper_word.specs.Words.{IsSigned, least_signed, greatest_signed, is_signed}
 
 pub le_true : (x y : ℤ) → int_le x y ≡ true → x ≤ℤ y
 le_true x y h = grind (arith, ints)

@@ -5,7 +5,8 @@ use Rattle.std.proofs.Math.Path.{ap₂}
 use Rattle.std.proofs.lemmas.Int.{ints}
 use Rattle.std.proofs.lemmas.Bool.{cases_Bool}
 use Rattle.viper_word.specs.Signed.{wrapped, signed_xor, signed_and, signed_nor, signed_and_not, halved, shifted_right, shifted_left}
-use Rattle.num_domain.specs.Domain.{Has, is_signed}
+use Rattle.viper_word.specs.Words.{is_signed}
+use Rattle.num_domain.specs.Domain.{Has}
 use Rattle.num_domain.specs.Options.{bind, or_else}
 use Rattle.num_domain.specs.Exact.{one}
 use Rattle.num_domain.specs.ExactRule.{IsExact}

@@ -1,11 +1,11 @@
 -- One instruction of the machine.
-use Rattle.std.specs.Prelude.{◌≡◌, ℕ, Bool, true, ◌+◌, ◌-◌, ◌*◌, ◌/◌, ◌%◌, ◌^◌, ◌<◌, ◌==◌, ◌&&◌, ◌||◌, not, nat_lt, nat_le, if◌then◌else◌, List, length, slice_index, slice_set, Option, Some, None, Result, Ok, Err, ℤ, ◌+ℤ◌, ◌-ℤ◌, int_le, bit_and, bit_or, bit_xor}
+use Rattle.std.specs.Prelude.{◌≡◌, ℕ, Bool, true, ◌+◌, ◌-◌, ◌*◌, ◌/◌, ◌%◌, ◌^◌, ◌<◌, ◌==◌, ◌&&◌, ◌||◌, not, nat_lt, nat_le, if◌then◌else◌, List, length, slice_index, slice_set, Option, Some, None, Result, Ok, Err, ℤ, ◌+ℤ◌, ◌-ℤ◌, bit_and, bit_or, bit_xor}
 use Rattle.std.specs.Int.{w32, bit_not}
 use Rattle.viper_word.specs.declared.cause.Cause.{Cause}
 use Rattle.viper_word.specs.declared.cause.Cause.TheVariants.{End, Illegal, Address, Overflow, Target}
 use Rattle.viper_word.specs.declared.kind.Kind.{Kind}
 use Rattle.viper_word.specs.declared.kind.Kind.TheVariants.{Lt, Ge, Eq, Ne, Le, Gt, Ult, Uge}
-use Rattle.viper_word.specs.Words.{signed_value, least_signed, greatest_signed, compares}
+use Rattle.viper_word.specs.Words.{signed_value, is_signed, compares}
 use Rattle.viper_word.specs.Fields.{Fields, fields_of, is_illegal, bit_value, is_jump, is_output, is_store, has_address, is_input}
 
 -- registers, the program counter P, the bit B, the stop flag, and the words of memory
@@ -61,10 +61,6 @@ operand i s answer =
 pub record Computed : Type 0 where
   pub value : ℕ
   pub b : Bool
-
--- the value is a word's
-abbrev pub is_signed : ℤ → Bool
-is_signed z = int_le least_signed z && int_le z greatest_signed
 
 -- a result that stops the machine unless the exact signed value is a word's
 abbrev pub exact : ℤ → ℕ → Bool → Option Computed

@@ -1,6 +1,5 @@
 ghost use Rattle.std.specs.Prelude.{◌≡◌, ◌+◌, ◌-◌, ◌%◌, ◌^◌, nat_lt, nat_le, ◌+ℤ◌, ◌-ℤ◌, MatchOption, option_map, if◌then◌else◌};
-ghost use Rattle.viper_word.specs.Words.{signed_value, IsSigned};
-ghost use Rattle.viper_word.specs.Machine.{is_signed};
+ghost use Rattle.viper_word.specs.Words.{signed_value, is_signed, IsSigned};
 
 use crate::sign::{of_signed, signed};
 use crate::word::Word;

@@ -1,7 +1,6 @@
 ghost use Rattle.std.specs.Prelude.{◌≡◌, ◌+◌, ◌*◌, ◌/◌, ◌%◌, ◌^◌, ◌==◌, nat_le, pos, ◌+ℤ◌, ◌≤ℤ◌, MatchOption, option_map, if◌then◌else◌};
-ghost use Rattle.viper_word.specs.Words.{signed_value, IsSigned};
+ghost use Rattle.viper_word.specs.Words.{signed_value, is_signed, IsSigned};
 ghost use Rattle.viper_word.specs.Fields.{bit_value};
-ghost use Rattle.viper_word.specs.Machine.{is_signed};
 
 use crate::sign::{of_signed, signed};
 use crate::word::Word;

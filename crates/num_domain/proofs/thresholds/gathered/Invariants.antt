@@ -1,6 +1,6 @@
 use Rattle.std.proofs.Common.{◌≡◌}
 use Rattle.std.specs.Prelude.{filter, take}
-use Rattle.num_domain.specs.Domain.{is_signed}
+use Rattle.viper_word.specs.Words.{is_signed}
 use Rattle.num_domain.proofs.thresholds.gathered.Given as goal
 
 abbrev pub invariant-loop-n : goal.invariant-loop-n
