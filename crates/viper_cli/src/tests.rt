@@ -16,7 +16,7 @@ const LOOP_PLAN: &str = "code 00000 00000\nmarker 00000\nstart 00000 any any any
 
 const FIVE_PLAN: &str = "code 00000 00001\nmarker 00000\nstart 00000 any any any any\n";
 
-/// One node with any registers that leads to itself, of rank 1.
+/// The shipped certificate: one node with any registers that leads to itself, of rank 1.
 const ONE_NODE: [u8; 85] = [
     86, 83, 66, 67, 1, 0, 0, 0, 0, 1, 1, 0, 0, 0, 0, 0, 0, 0, 0, 128, 0, 0, 0, 127, 255, 255, 255,
     0, 0, 0, 1, 0, 0, 0, 0, 128, 0, 0, 0, 127, 255, 255, 255, 0, 0, 0, 1, 0, 0, 0, 0, 128, 0, 0, 0,
@@ -24,66 +24,78 @@ const ONE_NODE: [u8; 85] = [
     0, 1, 0,
 ];
 
-/// Nodes 0 and 1 of ranks 2 and 1, where A is 5 at the second.
-const TWO_NODES: [u8; 155] = [
-    86, 83, 66, 67, 1, 0, 0, 0, 0, 2, 1, 0, 0, 0, 0, 0, 0, 0, 0, 128, 0, 0, 0, 127, 255, 255, 255,
-    0, 0, 0, 1, 0, 0, 0, 0, 128, 0, 0, 0, 127, 255, 255, 255, 0, 0, 0, 1, 0, 0, 0, 0, 128, 0, 0, 0,
-    127, 255, 255, 255, 0, 0, 0, 1, 0, 0, 0, 0, 255, 255, 255, 6, 1, 0, 0, 0, 1, 0, 0, 0, 0, 0, 0,
-    0, 2, 0, 0, 0, 0, 1, 0, 0, 0, 5, 0, 0, 0, 5, 0, 0, 0, 0, 0, 0, 0, 5, 128, 0, 0, 0, 127, 255,
-    255, 255, 0, 0, 0, 1, 0, 0, 0, 0, 128, 0, 0, 0, 127, 255, 255, 255, 0, 0, 0, 1, 0, 0, 0, 0,
-    255, 255, 255, 6, 1, 0, 0, 0, 0, 0, 0, 0, 0, 0, 0, 0, 1, 0,
-];
+/// The least and the greatest number that a register may have.
+type Ends = (i32, i32);
 
-/// The same with rank 1 at node 0: it does not fall.
-const RANK_STAYS: [u8; 155] = [
-    86, 83, 66, 67, 1, 0, 0, 0, 0, 2, 1, 0, 0, 0, 0, 0, 0, 0, 0, 128, 0, 0, 0, 127, 255, 255, 255,
-    0, 0, 0, 1, 0, 0, 0, 0, 128, 0, 0, 0, 127, 255, 255, 255, 0, 0, 0, 1, 0, 0, 0, 0, 128, 0, 0, 0,
-    127, 255, 255, 255, 0, 0, 0, 1, 0, 0, 0, 0, 255, 255, 255, 6, 1, 0, 0, 0, 1, 0, 0, 0, 0, 0, 0,
-    0, 1, 0, 0, 0, 0, 1, 0, 0, 0, 5, 0, 0, 0, 5, 0, 0, 0, 0, 0, 0, 0, 5, 128, 0, 0, 0, 127, 255,
-    255, 255, 0, 0, 0, 1, 0, 0, 0, 0, 128, 0, 0, 0, 127, 255, 255, 255, 0, 0, 0, 1, 0, 0, 0, 0,
-    255, 255, 255, 6, 1, 0, 0, 0, 0, 0, 0, 0, 0, 0, 0, 0, 1, 0,
-];
+const ANY: Ends = (i32::MIN, i32::MAX);
 
-/// No nodes at all.
-const NO_NODES: [u8; 11] = [86, 83, 66, 67, 1, 0, 0, 0, 0, 0, 0];
+/// A node at which X and Y may be any.
+#[derive(Clone, Copy)]
+struct Row {
+    at: u32,
+    a: Ends,
+    successors: &'static [u32],
+    rank: i64,
+}
 
-/// One node that lists itself twice.
-const LISTED_TWICE: [u8; 89] = [
-    86, 83, 66, 67, 1, 0, 0, 0, 0, 1, 1, 0, 0, 0, 0, 0, 0, 0, 0, 128, 0, 0, 0, 127, 255, 255, 255,
-    0, 0, 0, 1, 0, 0, 0, 0, 128, 0, 0, 0, 127, 255, 255, 255, 0, 0, 0, 1, 0, 0, 0, 0, 128, 0, 0, 0,
-    127, 255, 255, 255, 0, 0, 0, 1, 0, 0, 0, 0, 255, 255, 255, 6, 2, 0, 0, 0, 0, 0, 0, 0, 0, 0, 0,
-    0, 0, 0, 0, 0, 1, 0,
-];
+/// The node of the program of one instruction.
+const ONCE: Row = Row {
+    at: 0,
+    a: ANY,
+    successors: &[0],
+    rank: 1,
+};
 
-/// A second node that no start leads to, behind the code.
-const OUT_OF_CODE: [u8; 155] = [
-    86, 83, 66, 67, 1, 0, 0, 0, 0, 2, 1, 0, 0, 0, 0, 0, 0, 0, 0, 128, 0, 0, 0, 127, 255, 255, 255,
-    0, 0, 0, 1, 0, 0, 0, 0, 128, 0, 0, 0, 127, 255, 255, 255, 0, 0, 0, 1, 0, 0, 0, 0, 128, 0, 0, 0,
-    127, 255, 255, 255, 0, 0, 0, 1, 0, 0, 0, 0, 255, 255, 255, 6, 1, 0, 0, 0, 0, 0, 0, 0, 0, 0, 0,
-    0, 1, 0, 0, 0, 0, 1, 128, 0, 0, 0, 127, 255, 255, 255, 0, 0, 0, 1, 0, 0, 0, 0, 128, 0, 0, 0,
-    127, 255, 255, 255, 0, 0, 0, 1, 0, 0, 0, 0, 128, 0, 0, 0, 127, 255, 255, 255, 0, 0, 0, 1, 0, 0,
-    0, 0, 255, 255, 255, 6, 1, 0, 0, 0, 0, 0, 0, 0, 0, 0, 0, 0, 1, 0,
-];
+/// The nodes of the program of two.
+const FIRST: Row = Row {
+    at: 0,
+    a: ANY,
+    successors: &[1],
+    rank: 2,
+};
 
-/// The second node takes A to be 4.
-const TOO_NARROW: [u8; 155] = [
-    86, 83, 66, 67, 1, 0, 0, 0, 0, 2, 1, 0, 0, 0, 0, 0, 0, 0, 0, 128, 0, 0, 0, 127, 255, 255, 255,
-    0, 0, 0, 1, 0, 0, 0, 0, 128, 0, 0, 0, 127, 255, 255, 255, 0, 0, 0, 1, 0, 0, 0, 0, 128, 0, 0, 0,
-    127, 255, 255, 255, 0, 0, 0, 1, 0, 0, 0, 0, 255, 255, 255, 6, 1, 0, 0, 0, 1, 0, 0, 0, 0, 0, 0,
-    0, 2, 0, 0, 0, 0, 1, 0, 0, 0, 4, 0, 0, 0, 4, 0, 0, 0, 0, 0, 0, 0, 4, 128, 0, 0, 0, 127, 255,
-    255, 255, 0, 0, 0, 1, 0, 0, 0, 0, 128, 0, 0, 0, 127, 255, 255, 255, 0, 0, 0, 1, 0, 0, 0, 0,
-    255, 255, 255, 6, 1, 0, 0, 0, 0, 0, 0, 0, 0, 0, 0, 0, 1, 0,
-];
+const SECOND: Row = Row {
+    at: 1,
+    a: (5, 5),
+    successors: &[0],
+    rank: 1,
+};
 
-/// The second node has rank 0.
-const RANK_ZERO: [u8; 155] = [
-    86, 83, 66, 67, 1, 0, 0, 0, 0, 2, 1, 0, 0, 0, 0, 0, 0, 0, 0, 128, 0, 0, 0, 127, 255, 255, 255,
-    0, 0, 0, 1, 0, 0, 0, 0, 128, 0, 0, 0, 127, 255, 255, 255, 0, 0, 0, 1, 0, 0, 0, 0, 128, 0, 0, 0,
-    127, 255, 255, 255, 0, 0, 0, 1, 0, 0, 0, 0, 255, 255, 255, 6, 1, 0, 0, 0, 1, 0, 0, 0, 0, 0, 0,
-    0, 2, 0, 0, 0, 0, 1, 0, 0, 0, 5, 0, 0, 0, 5, 0, 0, 0, 0, 0, 0, 0, 5, 128, 0, 0, 0, 127, 255,
-    255, 255, 0, 0, 0, 1, 0, 0, 0, 0, 128, 0, 0, 0, 127, 255, 255, 255, 0, 0, 0, 1, 0, 0, 0, 0,
-    255, 255, 255, 6, 1, 0, 0, 0, 0, 0, 0, 0, 0, 0, 0, 0, 0, 0,
-];
+fn push_value(bytes: &mut Vec<u8>, (lo, hi): Ends) -> Result<(), Fail> {
+    bytes.extend_from_slice(&lo.to_be_bytes())?;
+    bytes.extend_from_slice(&hi.to_be_bytes())?;
+    let (modulus, residue) = if lo == hi { (0, lo) } else { (1_i32, 0) };
+    bytes.extend_from_slice(&modulus.to_be_bytes())?;
+    bytes.extend_from_slice(&residue.to_be_bytes())?;
+    Ok(())
+}
+
+fn push_numbers(bytes: &mut Vec<u8>, numbers: &[u32]) -> Result<(), Fail> {
+    bytes.push(u8::try_from(numbers.len())?)?;
+    for number in numbers {
+        bytes.extend_from_slice(&number.to_be_bytes())?;
+    }
+    Ok(())
+}
+
+/// The bytes of a certificate (docs/FORMATS.md, "Certificates").
+fn certificate(alloc: Global, starts: &[u32], nodes: &[Row]) -> Result<Vec<u8>, Fail> {
+    let mut bytes = Vec::new(alloc);
+    bytes.extend_from_slice(&[b'V', b'S', b'B', b'C', 1, 0])?;
+    bytes.extend_from_slice(&u32::try_from(nodes.len())?.to_be_bytes())?;
+    push_numbers(&mut bytes, starts)?;
+    for node in nodes {
+        bytes.extend_from_slice(&node.at.to_be_bytes())?;
+        for ends in [node.a, ANY, ANY] {
+            push_value(&mut bytes, ends)?;
+        }
+        bytes.extend_from_slice(&[0xFF, 0xFF, 0xFF, 6])?;
+        push_numbers(&mut bytes, node.successors)?;
+        bytes.extend_from_slice(&node.rank.to_be_bytes())?;
+        bytes.push(0)?;
+    }
+    Ok(bytes)
+}
 
 /// A shelf that holds the three contents.
 fn shelf_of(alloc: Global, image: &str, plan: &str, cert: &[u8]) -> Result<Shelf, Fail> {
@@ -97,95 +109,150 @@ fn shelf_of(alloc: Global, image: &str, plan: &str, cert: &[u8]) -> Result<Shelf
 const CHECK: [&str; 4] = ["check", "image", "plan", "cert"];
 
 #[test]
-fn answers_with_status_and_text(rt: HostRuntime) -> Result<(), Fail> {
+fn the_shipped_certificate_has_these_bytes(rt: HostRuntime) -> Result<(), Fail> {
+    let bytes = certificate(rt.alloc(), &[0], &[ONCE])?;
+    assert_eq!(rt; bytes.as_slice(), ONE_NODE.as_slice());
+    Ok(())
+}
+
+#[test]
+fn check_says_yes_or_the_first_condition_that_fails(rt: HostRuntime) -> Result<(), Fail> {
     let alloc = rt.alloc();
-    let cases: [(&str, &str, &[u8], Status, &str); 13] = [
+    let cases: [(&str, &str, &[u32], &[Row], Status, &str); 11] = [
         (
             LOOP,
             LOOP_PLAN,
-            &ONE_NODE,
+            &[0],
+            &[ONCE],
             Status::Done,
             "yes\nmarker 00000 within 1\n",
         ),
         (
             FIVE,
             FIVE_PLAN,
-            &TWO_NODES,
+            &[0],
+            &[FIRST, SECOND],
             Status::Done,
             "yes\nmarker 00000 within 2\n",
+        ),
+        // The bound is the greatest rank of the nodes at the marker, whether or not it is a start node's.
+        (
+            LOOP,
+            LOOP_PLAN,
+            &[0],
+            &[ONCE, Row { rank: 7, ..ONCE }, Row { rank: 3, ..ONCE }],
+            Status::Done,
+            "yes\nmarker 00000 within 7\n",
         ),
         (
             FIVE,
             FIVE_PLAN,
-            &RANK_STAYS,
+            &[0],
+            &[Row { rank: 1, ..FIRST }, SECOND],
             Status::Refused,
             "no node 0 address 00000 condition C10\n",
         ),
         (
             FIVE,
             FIVE_PLAN,
-            &TOO_NARROW,
+            &[0],
+            &[
+                FIRST,
+                Row {
+                    a: (4, 4),
+                    ..SECOND
+                },
+            ],
             Status::Refused,
             "no node 0 address 00000 condition C8\n",
         ),
         (
             FIVE,
             FIVE_PLAN,
-            &RANK_ZERO,
+            &[0],
+            &[FIRST, Row { rank: 0, ..SECOND }],
             Status::Refused,
             "no node 1 address 00001 condition C9\n",
         ),
         (
             LOOP,
             LOOP_PLAN,
-            &LISTED_TWICE,
+            &[0],
+            &[Row {
+                successors: &[0, 0],
+                ..ONCE
+            }],
             Status::Refused,
             "no node 0 address 00000 condition C8\n",
         ),
+        // Every node is looked at, also one that no start leads to.
         (
             LOOP,
             LOOP_PLAN,
-            &OUT_OF_CODE,
+            &[0],
+            &[ONCE, Row { at: 1, ..ONCE }],
             Status::Refused,
             "no node 1 address 00001 condition C1\n",
         ),
         (
             LOOP,
             LOOP_PLAN,
-            &NO_NODES,
+            &[],
+            &[],
+            Status::Refused,
+            "no start 0 address 00000 condition H2\n",
+        ),
+        (
+            FIVE,
+            FIVE_PLAN,
+            &[1],
+            &[FIRST, SECOND],
             Status::Refused,
             "no start 0 address 00000 condition H2\n",
         ),
         (
             "00000 06300001\n",
             LOOP_PLAN,
-            &ONE_NODE,
+            &[0],
+            &[ONCE],
             Status::Refused,
             "no node 0 address 00000 condition C5\n",
         ),
-        (
-            "00000 0030000A\n00001 00700001\n",
-            FIVE_PLAN,
-            &TWO_NODES,
-            Status::Input,
-            "unbuilt image\n",
-        ),
-        (LOOP, FIVE_PLAN, &ONE_NODE, Status::Input, "unbuilt plan\n"),
-        (
-            LOOP,
-            LOOP_PLAN,
-            &ONE_NODE[..84],
-            Status::Input,
-            "unbuilt cert\n",
-        ),
-        ("", LOOP_PLAN, &ONE_NODE, Status::Input, "unbuilt image\n"),
     ];
-    for (image, plan, cert, status, text) in cases {
-        let mut shelf = shelf_of(alloc, image, plan, cert)?;
+    for (image, plan, starts, nodes, status, text) in cases {
+        let cert = certificate(alloc, starts, nodes)?;
+        let mut shelf = shelf_of(alloc, image, plan, &cert)?;
         let mut page = Page::new(alloc);
         assert_eq!(rt;
             viper_main(alloc, &CHECK, &mut shelf, &mut page),
             status,
+            "{text}"
+        );
+        assert_eq!(rt; page.bytes(), text.as_bytes(), "{text}");
+    }
+    Ok(())
+}
+
+#[test]
+fn a_content_of_another_form_is_unbuilt(rt: HostRuntime) -> Result<(), Fail> {
+    let alloc = rt.alloc();
+    let cases: [(&str, &str, &[u8], &str); 4] = [
+        (
+            "00000 0030000A\n00001 00700001\n",
+            FIVE_PLAN,
+            &ONE_NODE,
+            "unbuilt image\n",
+        ),
+        ("", LOOP_PLAN, &ONE_NODE, "unbuilt image\n"),
+        (LOOP, FIVE_PLAN, &ONE_NODE, "unbuilt plan\n"),
+        (LOOP, LOOP_PLAN, &ONE_NODE[..84], "unbuilt cert\n"),
+    ];
+    for (image, plan, cert, text) in cases {
+        let mut shelf = shelf_of(alloc, image, plan, cert)?;
+        let mut page = Page::new(alloc);
+        assert_eq!(rt;
+            viper_main(alloc, &CHECK, &mut shelf, &mut page),
+            Status::Input,
             "{text}"
         );
         assert_eq!(rt; page.bytes(), text.as_bytes(), "{text}");
