@@ -1,6 +1,6 @@
 ghost use Rattle.std.specs.Prelude.{◌≡◌, ◌≢◌, ◌<◌, ◌≤◌, ◌+◌, ◌-◌, ◌^◌, ◌++◌, ℕ, List, [], length, map, option_map, IfOk, IfErr, IfSome, IfNone, MatchOption};
 ghost use Rattle.memory_plan.specs.Plans.{word_at};
-ghost use Rattle.memory_plan.specs.FirstForms.{ReadsLiteral, image_line, IsFirstImage, words_from};
+ghost use Rattle.memory_plan.specs.FirstForms.{ReadsLiteral, image_line, IsPlainImage, IsFirstImage, words_from};
 ghost use Rattle.memory_plan.specs.Images.{numbers};
 
 use crate::digits::address_digits;
@@ -53,7 +53,8 @@ impl Image {
 
     /// A copy.
     pub(crate) fn copy(&self, alloc: Global) -> Result<Image, AllocError>
-        ensures { IfOk result (λ image. image ≡ self.now) }
+        ensures copied { IfOk result (λ image. image ≡ self.now) }
+        ensures plain { IfOk result IsPlainImage }
     {
         let words = Vec::from_slice(alloc, self.words.as_slice())?;
         Ok(Image { words })

@@ -1,5 +1,6 @@
 ghost use Rattle.std.specs.Prelude.{◌≡◌, ◌≢◌, ◌<◌, ◌≤◌, ◌^◌, ◌-◌, ◌+◌, ◌∷◌, [], ℕ, List, length, map, option_map, IfSome, IfOk, IfErr, MatchOption};
 ghost use Rattle.memory_plan.specs.Plans.{PlanLines, in_code, code_word, is_marker};
+ghost use Rattle.memory_plan.specs.Runs.{CanRun};
 ghost use Rattle.memory_plan.specs.FirstForms.{ReadsLiteral, any_start, code_plan, first_plan_text, IsFirstPlan};
 
 use crate::digits::address_digits;
@@ -91,22 +92,12 @@ fn marker_in(text: &[u8]) -> Option<Addr>
     Addr::new(number)
 }
 
-/// Reads a plan of the plainest form over its image: a line `code 00000 E` with E the last address of
-/// the image, a line `marker AT` with an address of the image, and a line `start AT any any any any`
-/// with the same address, in upper case, each ended by LF (docs/FORMATS.md, "Plans"). `Unbuilt`
-/// comes exactly where the text isn't of this form.
-pub fn first_plan(alloc: Global, text: &[u8], image: &Image) -> Result<Plan, FirstFault>
-    ensures found { IfOk result (IsFirstPlan image.now text.now) }
-    ensures unbuilt { IfErr result (λ e. e ≡ FirstFault.Unbuilt → (plan : PlanLines) → IsFirstPlan image.now text.now plan → ⊥) }
+/// The plan whose code is the whole image, with one marker, at which the machine starts in any state.
+fn plan_over(alloc: Global, image: &Image, marker: Addr) -> Result<Plan, AllocError>
+    requires { marker < length image.now }
+    ensures plan { IfOk result (λ plan. plan ≡ code_plan image.now (marker ∷ []) (any_start marker ∷ [])) }
+    ensures can_run { IfOk result CanRun }
 {
-    let Some(marker) = marker_in(text) else {
-        return Err(FirstFault::Unbuilt);
-    };
-    let last = image.last();
-    let expected = plan_text(alloc, last, marker)?;
-    if marker > last || text != expected.as_slice() {
-        return Err(FirstFault::Unbuilt);
-    }
     let start = Start {
         at: marker,
         a: Range::any(),
@@ -119,4 +110,25 @@ pub fn first_plan(alloc: Global, text: &[u8], image: &Image) -> Result<Plan, Fir
         markers: vec![in alloc; marker]?,
         starts: vec![in alloc; start]?,
     })
+}
+
+/// Reads a plan of the plainest form over its image: a line `code 00000 E` with E the last address of
+/// the image, a line `marker AT` with an address of the image, and a line `start AT any any any any`
+/// with the same address, in upper case, each ended by LF (docs/FORMATS.md, "Plans"). `Unbuilt`
+/// comes exactly where the text isn't of this form. Each plan that is read can run: it has a start
+/// state, and its fair runs go on.
+pub fn first_plan(alloc: Global, text: &[u8], image: &Image) -> Result<Plan, FirstFault>
+    ensures found { IfOk result (IsFirstPlan image.now text.now) }
+    ensures can_run { IfOk result CanRun }
+    ensures unbuilt { IfErr result (λ e. e ≡ FirstFault.Unbuilt → (plan : PlanLines) → IsFirstPlan image.now text.now plan → ⊥) }
+{
+    let Some(marker) = marker_in(text) else {
+        return Err(FirstFault::Unbuilt);
+    };
+    let last = image.last();
+    let expected = plan_text(alloc, last, marker)?;
+    if marker > last || text != expected.as_slice() {
+        return Err(FirstFault::Unbuilt);
+    }
+    Ok(plan_over(alloc, image, marker)?)
 }

@@ -1,11 +1,9 @@
 -- What Done rests on.
-use Rattle.std.proofs.Common.{◌≡◌, ℕ, ◌+◌, ◌==◌, List, [], ◌∷◌, refl, sym, ap, subst, ◌∙◌, Option, Some, None, Bool, true, Result, Ok, Err, inl, inr}
-use Rattle.std.specs.List.{AllByRecursion}
-use Rattle.std.proofs.lemmas.List.Elements.{recursion_from_All}
-use Rattle.std.proofs.lemmas.Option.{none-some, same_Some}
-use Rattle.viper_word.proofs.Tests.{chosen}
+use Rattle.std.proofs.Common.{◌≡◌, ℕ, List, refl, sym, ap, subst, ◌∙◌, Option, Some, None, Bool, true, Result, Ok, Err}
 use Rattle.memory_plan.specs.Plans.{PlanLines, word_at}
-use Rattle.memory_plan.specs.FirstForms.{ReadsLiteral, words_from, IsFirstImage, IsFirstPlan}
+use Rattle.memory_plan.specs.FirstForms.{IsFirstImage, IsFirstPlan}
+use Rattle.memory_plan.proofs.ImageWords.{word_placed}
+use Rattle.memory_plan.proofs.RunsExist.{first_runs}
 use Rattle.viper_top.specs.declared.unread.Unread.{Unread}
 use Rattle.viper_top.specs.declared.unread.Unread.TheVariants.{Long, Unbuilt}
 use Rattle.viper_top.specs.declared.cert_checker.Bound.{Bound}
@@ -23,16 +21,9 @@ use Rattle.viper_top.proofs.Yes.{yes_local}
 
 -- ---- an image's words are literal reads
 
-reads_in : (k : ℕ) (ws : List ℕ) (at w : ℕ) → AllByRecursion ReadsLiteral ws → word_at (words_from k ws) at ≡ Some w → ReadsLiteral w
-reads_in k [] at w all h = absurd (none-some w h)
-reads_in k (v ∷ vs) at w all h = elim (chosen (k == at) (Some v) (word_at (words_from (k + 1) vs) at) (Some w) h) [
-  | inl here ↦ subst ReadsLiteral (same_Some v w here.1) all.0
-  | inr later ↦ reads_in (k + 1) vs at w all.1 later.1
-]
-
 only_reads : (text : List ℕ) (image : List (ℕ × ℕ)) (plan_text : List ℕ) (plan : PlanLines) → IsFirstImage text image → IsFirstPlan image plan_text plan → OnlyReads plan
 only_reads text image plan_text plan is planned = record {
-  reads = λ at w h. reads_in 0 is.words at w (recursion_from_All ReadsLiteral is.words is.first.read) (ap (λ (i : List (ℕ × ℕ)). word_at i at) (sym is.placed) ∙ ap (λ (p : PlanLines). word_at p.image at) (sym planned.is) ∙ h);
+  reads = λ at w h. (word_placed image at w is.plain (ap (λ (p : PlanLines). word_at p.image at) (sym planned.is) ∙ h)).1;
 }
 
 -- ---- what a Done says of what the contents are read as
@@ -108,6 +99,7 @@ answers_done tells holds names b n before now a =
       };
       local = local.0;
       runs = local_suffices y.lines y.certificate (only_reads image.bytes y.words plan.bytes y.lines image.is plan.is) local.0;
+      can_run = first_runs y.words plan.bytes y.lines image.is.plain plan.is;
       put = rw (ap (λ (x : Said). x.text) an.is ∙ y.text_is ∙ ap yes_text (sym local.1)) at a.put;
     }
 

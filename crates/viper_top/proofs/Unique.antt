@@ -6,9 +6,10 @@ use Rattle.std.proofs.lemmas.List.Elements.{recursion_from_All}
 use Rattle.std.proofs.lemmas.Option.{same_Some}
 use Rattle.viper_word.specs.Digits.{word_digits}
 use Rattle.memory_plan.specs.Plans.{PlanLines}
+use Rattle.memory_plan.proofs.ImageWords.{few_words}
 use Rattle.memory_plan.specs.FirstForms.{ReadsLiteral, words_from, image_line, image_text, any_start, code_plan, IsFirstImage, IsFirstPlan}
 use Rattle.memory_plan.proofs.DigitLemmas.{same_fronts}
-use Rattle.memory_plan.proofs.LineLemmas.{length-words_from, line_length, line_parts, end_is}
+use Rattle.memory_plan.proofs.LineLemmas.{line_length, line_parts, end_is}
 use Rattle.memory_plan.proofs.PlanLemmas.{plan_has_marker, marker_read}
 use Rattle.viper_top.specs.Certificates.{Certificate, IsCertificate}
 use Rattle.viper_top.specs.Reading.{cert_of}
@@ -34,12 +35,12 @@ same_words k (w ∷ ws) (v ∷ vs) a b e =
 
 pub image_unique : (text : List ℕ) (i j : List (ℕ × ℕ)) → IsFirstImage text i → IsFirstImage text j → i ≡ j
 image_unique text i j a b =
-    let same : image_text (words_from 0 a.words) ≡ image_text (words_from 0 b.words) = sym (ap image_text a.placed) ∙ sym a.lines ∙ b.lines ∙ ap image_text b.placed in
-    let words : a.words ≡ b.words = same_words 0 a.words b.words (recursion_from_All ReadsLiteral a.words a.first.read) (recursion_from_All ReadsLiteral b.words b.first.read) same in
-    a.placed ∙ ap (words_from 0) words ∙ sym b.placed
+    let same : image_text (words_from 0 a.plain.words) ≡ image_text (words_from 0 b.plain.words) = sym (ap image_text a.plain.placed) ∙ sym a.lines ∙ b.lines ∙ ap image_text b.plain.placed in
+    let words : a.plain.words ≡ b.plain.words = same_words 0 a.plain.words b.plain.words (recursion_from_All ReadsLiteral a.plain.words a.plain.first.read) (recursion_from_All ReadsLiteral b.plain.words b.plain.first.read) same in
+    a.plain.placed ∙ ap (words_from 0) words ∙ sym b.plain.placed
 
 pub image_few : (text : List ℕ) (i : List (ℕ × ℕ)) → IsFirstImage text i → length i ≤ 256
-image_few text i a = let few = a.first.few in omega (arith, few, ap length a.placed, length-words_from 0 a.words)
+image_few text i a = few_words i a.plain
 
 pub plan_unique : (image : List (ℕ × ℕ)) (text : List ℕ) (p q : PlanLines) → length image ≤ 256 → IsFirstPlan image text p → IsFirstPlan image text q → p ≡ q
 plan_unique image text p q few a b =

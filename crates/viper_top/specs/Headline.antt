@@ -2,6 +2,7 @@
 use Rattle.std.specs.Prelude.{◌≡◌, ℕ, ◌≤◌, List, length, take, Option, Some, None, Bool, true, codes}
 use Rattle.viper_io.specs.Causes.{Rose, Wrote}
 use Rattle.memory_plan.specs.Plans.{PlanLines}
+use Rattle.memory_plan.specs.Runs.{CanRun}
 use Rattle.memory_plan.specs.FirstForms.{IsFirstImage, IsFirstPlan}
 use Rattle.viper_top.specs.declared.top.Status.{Status}
 use Rattle.viper_top.specs.Certificates.{Certificate, IsCertificate}
@@ -26,7 +27,8 @@ pub record AreRead (tells : Bool) (holds : List ℕ → Option (List ℕ)) (name
   pub cert_is : IsCertificate cert_bytes cert
 
 -- Done: all local conditions hold of what was read; every fair run is safe, and each marker is bounded
--- by the number in its line, or unreached as its line says; and the text of that yes was put.
+-- by the number in its line, or unreached as its line says; there are such runs, and each goes on; and
+-- the text of that yes was put.
 pub record Verified (tells : Bool) (holds : List ℕ → Option (List ℕ)) (names : Names) (before now : Option (List ℕ)) : Type 0 where
   pub image : List (ℕ × ℕ)
   pub plan : PlanLines
@@ -34,6 +36,7 @@ pub record Verified (tells : Bool) (holds : List ℕ → Option (List ℕ)) (nam
   pub read : AreRead tells holds names image plan cert
   pub local : Local plan cert
   pub runs : Holds plan (bounds_of plan cert)
+  pub can_run : CanRun plan
   pub put : Wrote before (yes_text (bounds_of plan cert)) now
 
 abbrev pub Headline : Bool → (List ℕ → Option (List ℕ)) → Option Names → Option (List ℕ) → Option (List ℕ) → Type 0
