@@ -19,6 +19,7 @@ fn words_of<'a>(alloc: Global, args: &'a [String]) -> Result<Vec<&'a str>, Alloc
     Ok(words)
 }
 
+/// Does what the arguments say, over the system's files and standard output.
 fn run(rt: &HostRuntime, alloc: Global, args: &[String]) -> Status {
     let Ok(words) = words_of(alloc, args) else {
         return Status::Memory;
@@ -52,5 +53,5 @@ fn run_arguments(rt: &HostRuntime) -> Status {
 /// Ends with the number of the status: with 4 where the arguments can't be read, and with 5 where
 /// there is no memory for them.
 fn main(rt: HostRuntime) -> ExitCode {
-    ExitCode::from(run_arguments(&rt) as u8)
+    ExitCode::from(run_arguments(&rt).number())
 }

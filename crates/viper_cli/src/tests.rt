@@ -118,7 +118,7 @@ fn the_shipped_certificate_has_these_bytes(rt: HostRuntime) -> Result<(), Fail> 
 #[test]
 fn check_says_yes_or_the_first_condition_that_fails(rt: HostRuntime) -> Result<(), Fail> {
     let alloc = rt.alloc();
-    let cases: [(&str, &str, &[u32], &[Row], Status, &str); 11] = [
+    let cases: [(&str, &str, &[u32], &[Row], Status, &str); 15] = [
         (
             LOOP,
             LOOP_PLAN,
@@ -209,6 +209,44 @@ fn check_says_yes_or_the_first_condition_that_fails(rt: HostRuntime) -> Result<(
             &[FIRST, SECOND],
             Status::Refused,
             "no start 0 address 00000 condition H2\n",
+        ),
+        // The start node doesn't have all starts.
+        (
+            LOOP,
+            LOOP_PLAN,
+            &[0],
+            &[Row { a: (0, 0), ..ONCE }],
+            Status::Refused,
+            "no start 0 address 00000 condition H2\n",
+        ),
+        // Where more than one condition fails the first counts: starts, then nodes, then conditions in order.
+        (
+            LOOP,
+            LOOP_PLAN,
+            &[],
+            &[Row { rank: 0, ..ONCE }],
+            Status::Refused,
+            "no start 0 address 00000 condition H2\n",
+        ),
+        (
+            FIVE,
+            FIVE_PLAN,
+            &[0],
+            &[Row { rank: 0, ..FIRST }, Row { rank: 0, ..SECOND }],
+            Status::Refused,
+            "no node 0 address 00000 condition C9\n",
+        ),
+        (
+            LOOP,
+            LOOP_PLAN,
+            &[0],
+            &[Row {
+                successors: &[0, 0],
+                rank: 0,
+                ..ONCE
+            }],
+            Status::Refused,
+            "no node 0 address 00000 condition C8\n",
         ),
         (
             "00000 06300001\n",
@@ -310,15 +348,38 @@ fn a_call_that_fails_is_outside(rt: HostRuntime) -> Result<(), Fail> {
 #[test]
 fn a_content_over_its_limit_is_long(rt: HostRuntime) -> Result<(), Fail> {
     let alloc = rt.alloc();
-    let mut shelf = shelf_of(alloc, LOOP, LOOP_PLAN, &ONE_NODE)?;
-    let plan = vec![in alloc; b'#'; 1_000_001]?;
-    shelf.hold("plan", &plan)?;
-    let mut page = Page::new(alloc);
-    assert_eq!(rt;
-        viper_main(alloc, &CHECK, &mut shelf, &mut page),
-        Status::Input
-    );
-    assert_eq!(rt; page.bytes(), b"plan long\n".as_slice());
+    let cases: [(&str, usize, &str); 3] = [
+        ("image", 15_728_641, "image long\n"),
+        ("plan", 1_000_000, "unbuilt plan\n"),
+        ("plan", 1_000_001, "plan long\n"),
+    ];
+    for (name, bytes, text) in cases {
+        let mut shelf = shelf_of(alloc, LOOP, LOOP_PLAN, &ONE_NODE)?;
+        let content = vec![in alloc; b'#'; bytes]?;
+        shelf.hold(name, &content)?;
+        let mut page = Page::new(alloc);
+        assert_eq!(rt;
+            viper_main(alloc, &CHECK, &mut shelf, &mut page),
+            Status::Input
+        );
+        assert_eq!(rt; page.bytes(), text.as_bytes(), "{text}");
+    }
+    Ok(())
+}
+
+#[test]
+fn each_status_has_its_number(rt: HostRuntime) -> Result<(), Fail> {
+    let numbers: [(Status, u8); 6] = [
+        (Status::Done, 0),
+        (Status::Refused, 1),
+        (Status::Usage, 2),
+        (Status::Input, 3),
+        (Status::Outside, 4),
+        (Status::Memory, 5),
+    ];
+    for (status, number) in numbers {
+        assert_eq!(rt; status.number(), number);
+    }
     Ok(())
 }
 

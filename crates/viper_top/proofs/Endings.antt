@@ -14,12 +14,13 @@ use Rattle.viper_top.specs.declared.top.Status.TheVariants.{Done, Refused, Usage
 use Rattle.viper_top.specs.Certificates.{Certificate, IsCertificate}
 use Rattle.viper_top.specs.Conditions.{Local}
 use Rattle.viper_top.specs.Verdicts.{Refusal, first_failure, bounds_of, verdict_from, verdict_of}
+use Rattle.viper_top.specs.Claims.{IsExact}
 use Rattle.viper_top.specs.Texts.{no_text}
 use Rattle.viper_top.specs.CommandLine.{Names, list_of}
 use Rattle.viper_top.specs.Answers.{Said, verdict_answer, cert_answer, plan_answer, answer_of, IsContent, Reads, Answered, Answers, AnswersRow, EndsAnswered, FetchFailed, RowFailed, image_limit, plan_limit, cert_limit}
 use Rattle.viper_top.specs.Headline.{Declined, DeclinedRow, MayHave, LeftFront, AreGiven, IsSaid}
 use Rattle.viper_top.proofs.Done.{found}
-use Rattle.viper_top.proofs.Yes.{local_yes}
+use Rattle.viper_top.proofs.Yes.{local_yes, yes_local}
 use Rattle.viper_top.proofs.Unique.{image_unique, image_few, plan_unique, cert_unique}
 
 -- ---- Refused
@@ -64,6 +65,14 @@ refusal_first plan c r h = first_of_refusal (bounds_of plan c) (first_failure pl
 
 refusal_fails : (plan : PlanLines) (c : Certificate) (r : Refusal) → verdict_of plan c ≡ Err r → Local plan c → ⊥
 refusal_fails plan c r h local = let other : Err r ≡ Ok (bounds_of plan c) = sym h ∙ local_yes plan c local in cc (other)
+
+pub verdict_exact : (plan : PlanLines) (c : Certificate) → IsExact plan c
+verdict_exact plan c = record {
+  yes = local_yes plan c;
+  only_where = λ bounds h. (yes_local plan c bounds h).0;
+  first = refusal_first plan c;
+  not_where = refusal_fails plan c;
+}
 
 answers_refused : (tells : Bool) (holds : List ℕ → Option (List ℕ)) (names : Names) (b n : ℕ) (before now : Option (List ℕ)) → Answers tells holds names b n Refused before now → Declined tells holds names before now
 answers_refused tells holds names b n before now a =
@@ -144,17 +153,24 @@ row_not_failed : (row : Option Names) (before now : List Failure) → now ≡ be
 row_not_failed None before now same f = f
 row_not_failed (Some names) before now same f = not_failed (list_of names) before now same f
 
--- what holds of a status, whichever it is
+-- where nothing failed the status is one of the three that an answer has
+pub ends_by : (row : Option Names) (ends : Status) (failures failed : List Failure) (faults faulted : ℕ) → (ends ≡ Usage → row ≡ None) → (ends ≡ Outside → RowFailed row failures failed ⊎ Rose faults faulted)
+    → row ≢ None → failed ≡ failures → (Rose faults faulted → ⊥) → ends ≢ Memory → EndsAnswered ends
+ends_by row Done failures failed faults faulted usage outside some same none memory = tt
+ends_by row Refused failures failed faults faulted usage outside some same none memory = tt
+ends_by row Input failures failed faults faulted usage outside some same none memory = tt
+ends_by row Usage failures failed faults faulted usage outside some same none memory = some (usage refl)
+ends_by row Outside failures failed faults faulted usage outside some same none memory = elim (outside refl) [ inl f ↦ row_not_failed row failures failed same f | inr rose ↦ none rose ]
+ends_by row Memory failures failed faults faulted usage outside some same none memory = memory refl
+
+-- and then it is the answer for the contents that are given
 pub complete_by : (tells : Bool) (holds : List ℕ → Option (List ℕ)) (row : Option Names) (b n : ℕ) (ends : Status) (before now : Option (List ℕ)) (failures failed : List Failure) (faults faulted : ℕ)
     → (EndsAnswered ends → AnswersRow tells holds row b n ends before now) → (ends ≡ Usage → (row ≡ None) × Wrote before (codes "usage\n") now) → (ends ≡ Outside → RowFailed row failures failed ⊎ Rose faults faulted)
     → (names : Names) (image : List (ℕ × ℕ)) (plan : PlanLines) (cert : Certificate) → row ≡ Some names → AreGiven tells holds names image plan cert → failed ≡ failures → (Rose faults faulted → ⊥) → ends ≢ Memory
     → IsSaid (verdict_answer (verdict_of plan cert)) ends before now
-complete_by tells holds row b n Done before now failures failed faults faulted answered usage outside names image plan cert e g same none memory = row_said tells holds row b n Done before now names image plan cert e g (answered tt)
-complete_by tells holds row b n Refused before now failures failed faults faulted answered usage outside names image plan cert e g same none memory = row_said tells holds row b n Refused before now names image plan cert e g (answered tt)
-complete_by tells holds row b n Input before now failures failed faults faulted answered usage outside names image plan cert e g same none memory = row_said tells holds row b n Input before now names image plan cert e g (answered tt)
-complete_by tells holds row b n Usage before now failures failed faults faulted answered usage outside names image plan cert e g same none memory = absurd (none-some names (sym (usage refl).0 ∙ e))
-complete_by tells holds row b n Outside before now failures failed faults faulted answered usage outside names image plan cert e g same none memory = absurd (elim (outside refl) [ inl f ↦ row_not_failed row failures failed same f | inr rose ↦ none rose ])
-complete_by tells holds row b n Memory before now failures failed faults faulted answered usage outside names image plan cert e g same none memory = absurd (memory refl)
+complete_by tells holds row b n ends before now failures failed faults faulted answered usage outside names image plan cert e g same none memory =
+    let some : row ≢ None = λ nothing. none-some names (sym nothing ∙ e) in
+    row_said tells holds row b n ends before now names image plan cert e g (answered (ends_by row ends failures failed faults faulted (λ u. (usage u).0) outside some same none memory))
 
 -- ---- a put that failed
 

@@ -15,6 +15,16 @@ use Rattle.viper_top.specs.Verdicts.{Refusal, verdict_of}
 use Rattle.viper_top.specs.Texts.{yes_text, no_text}
 use Rattle.viper_top.specs.CommandLine.{Names, list_of}
 
+-- ---- how the program ends
+
+abbrev pub status_number : Status → ℕ
+status_number Done = 0
+status_number Refused = 1
+status_number Usage = 2
+status_number Input = 3
+status_number Outside = 4
+status_number Memory = 5
+
 -- ---- a status with its text, for what the contents are read as
 
 pub record Said : Type 0 where

@@ -1,5 +1,5 @@
 -- What the bounds of a yes claim of all runs.
-use Rattle.std.specs.Prelude.{◌≡◌, ℕ, List, Some, Ok, All}
+use Rattle.std.specs.Prelude.{◌≡◌, ℕ, List, Some, Ok, Err, All}
 use Rattle.memory_plan.specs.Plans.{PlanLines, word_at}
 use Rattle.memory_plan.specs.FirstForms.{ReadsLiteral}
 use Rattle.memory_plan.specs.Runs.{AllSafe, AllBounded, IsUnreached}
@@ -7,7 +7,7 @@ use Rattle.viper_top.specs.declared.cert_checker.Bound.{Bound}
 use Rattle.viper_top.specs.declared.cert_checker.Bound.TheVariants.{Within, Unreached}
 use Rattle.viper_top.specs.Certificates.{Certificate}
 use Rattle.viper_top.specs.Conditions.{Local}
-use Rattle.viper_top.specs.Verdicts.{bounds_of, verdict_of}
+use Rattle.viper_top.specs.Verdicts.{Refusal, first_failure, bounds_of, verdict_of}
 
 -- each word of the image is a literal read
 pub record OnlyReads (plan : PlanLines) : Type 0 where
@@ -23,10 +23,17 @@ pub record Holds (plan : PlanLines) (bounds : List (ℕ × Bound)) : Type 0 wher
   pub safe : AllSafe plan
   pub markers : All (λ e. Claimed plan e.0 e.1) bounds
 
--- local conditions suffice: they imply that every fair run of every length is safe and that each marker is bounded
+-- Local conditions suffice: of a plan whose words are all literal reads they imply that every fair run of
+-- every length is safe and that each marker is bounded, or unreached.
 abbrev pub LocalSuffices : Type 0
 LocalSuffices = (plan : PlanLines) (c : Certificate) → OnlyReads plan → Local plan c → Holds plan (bounds_of plan c)
 
--- and a yes comes exactly where they hold
-abbrev pub YesWhereLocal : Type 0
-YesWhereLocal = (plan : PlanLines) (c : Certificate) → Local plan c → verdict_of plan c ≡ Ok (bounds_of plan c)
+-- a yes comes where they hold, and only there; and a no, with the first that fails, only where they don't
+pub record IsExact (plan : PlanLines) (c : Certificate) : Type 0 where
+  pub yes : Local plan c → verdict_of plan c ≡ Ok (bounds_of plan c)
+  pub only_where : (bounds : List (ℕ × Bound)) → verdict_of plan c ≡ Ok bounds → Local plan c
+  pub first : (refusal : Refusal) → verdict_of plan c ≡ Err refusal → first_failure plan c ≡ Some refusal
+  pub not_where : (refusal : Refusal) → verdict_of plan c ≡ Err refusal → Local plan c → ⊥
+
+abbrev pub YesExactlyWhereLocal : Type 0
+YesExactlyWhereLocal = (plan : PlanLines) (c : Certificate) → IsExact plan c

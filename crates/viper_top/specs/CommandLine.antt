@@ -1,5 +1,6 @@
 -- The words of the command line.
-use Rattle.std.specs.Prelude.{ℕ, List, [], ◌∷◌, Option, Some, None, Bool, false, not, ◌&&◌, ◌==◌, if◌then◌else◌, codes}
+use Rattle.std.specs.Prelude.{ℕ, List, [], ◌∷◌, Option, Some, None, Bool, false, not, ◌&&◌, ◌==◌, if◌then◌else◌, codes, map}
+use Rattle.std.specs.Borrow.{Bor}
 use Rattle.std.specs.Str.{bytes_eq}
 use Rattle.viper_top.specs.declared.command_line.Row.{Row}
 
@@ -26,3 +27,7 @@ abbrev pub names_of : List (List ℕ) → Option Names
 names_of (c ∷ i ∷ p ∷ k ∷ []) =
     if bytes_eq c (codes "check") && is_plain i && is_plain p && is_plain k then Some (record { image = i; plan = p; cert = k }) else None
 names_of _ = None
+
+-- the names on the command line, as the program is handed its words
+abbrev pub names_in : List (Bor (List ℕ)) → Option Names
+names_in words = names_of (map (λ w. w.now) words)

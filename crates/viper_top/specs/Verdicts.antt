@@ -41,7 +41,8 @@ or_else (Some r) other = Some r
 abbrev pub first_failure : PlanLines → Certificate → Option Refusal
 first_failure plan c = or_else (first_start c 0 plan.starts) (first_node plan c.nodes 0 c.nodes)
 
--- the greatest rank of the nodes at an address, and Unreached where none stands there
+-- The greatest rank of the nodes at an address, and Unreached where none stands there. Where all conditions
+-- hold each rank is at least 1, and so its size is the rank itself.
 abbrev pub raised : ℕ → Bound → Bound
 raised rank Unreached = Within rank
 raised rank (Within bound) = Within (max rank bound)

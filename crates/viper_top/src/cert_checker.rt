@@ -147,7 +147,7 @@ fn read_fault(plan: &Plan, nodes: &[Node], node: &Node, read: &LiteralRead) -> O
 fn check_node(plan: &Plan, nodes: &[Node], node: &Node) -> Option<Cond>
     ensures { result ≡ node_fault plan.now (nodes_view nodes.now) (node_view node.now) }
 {
-    if node.addr.get() == 0xF_FFFF {
+    if node.addr.get() == Addr::LAST {
         return Some(Cond::C1);
     }
     let Some(word) = plan.code_word(node.addr) else {

@@ -21,7 +21,7 @@ pub struct Node {
     pub rank: i64,
 }
 
-/// What is to be checked of a program: the numbers of the nodes that starts lead to, and all nodes.
+/// A certificate: the numbers of the start nodes, and all nodes (docs/METHOD.md, "Certificates").
 #[derive(Debug, Drop)]
 pub struct Cert {
     pub starts: Vec<u32>,

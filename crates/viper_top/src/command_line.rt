@@ -1,5 +1,5 @@
-ghost use Rattle.std.specs.Prelude.{◌≡◌, List, map, option_map};
-ghost use Rattle.viper_top.specs.CommandLine.{is_plain, names_of, row_names};
+ghost use Rattle.std.specs.Prelude.{◌≡◌, List, option_map};
+ghost use Rattle.viper_top.specs.CommandLine.{is_plain, names_in, row_names};
 
 /// The names on the command line `check IMAGE PLAN CERT`.
 #[derive(Clone, Copy)]
@@ -21,7 +21,7 @@ fn is_plain(word: &str) -> bool
 
 /// The row that the words are. None exactly where they are none.
 pub fn row_of<'a>(words: &[&'a str]) -> Option<Row<'a>>
-    ensures { option_map row_names result ≡ names_of (map (λ w. w.now) words.now) }
+    ensures { option_map row_names result ≡ names_in words.now }
 {
     match words {
         [command, image, plan, cert]

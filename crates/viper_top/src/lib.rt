@@ -16,4 +16,4 @@ mod texts;
 mod top;
 mod unread;
 
-pub use top::{Status, local_conditions_suffice, sure_main, viper_main, yes_where_local};
+pub use top::{Status, local_conditions_suffice, sure_main, viper_main, yes_exactly_where_local};
