@@ -5,19 +5,22 @@ set -u
 crates=$(cd "$(dirname "${BASH_SOURCE[0]}")/crates" && pwd) || exit 1
 program=$crates/viper_cli/out/viper_cli
 
+# Is there no program, or was a source changed, added or taken away since it was built?
 is_due() {
-    [ ! -x "$program" ] || [ -n "$(find "$crates" -name out -prune -o \
-        -path '*/must-fail' -prune -o -type f -newer "$program" -print -quit)" ]
+    [ ! -x "$program" ] || [ -n "$(find "$crates" -mindepth 2 -name out -prune -o \
+        -name must-fail -prune -o -newer "$program" -print -quit)" ]
 }
 
 if is_due; then
     echo "viper: building, which proves every crate; see README.md for how long that takes" >&2
-    log=$(mktemp) || exit 1
-    if ! (cd "$crates/viper_cli" && rt run -- check data/image data/plan data/cert) >"$log" 2>&1; then
-        cat "$log" >&2
+    work=$(mktemp -d) || exit 1
+    touch "$work/begun"
+    if ! (cd "$crates/viper_cli" && rt run -- check data/image data/plan data/cert) >"$work/log" 2>&1; then
+        cat "$work/log" >&2
         exit 1
     fi
-    rm -f "$log"
-    touch "$program"
+    # As old as the build's begin, so that a source that was changed meanwhile makes it due again.
+    touch -r "$work/begun" "$program"
+    rm -r "$work"
 fi
 exec "$program" "$@"

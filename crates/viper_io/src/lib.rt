@@ -5,6 +5,7 @@
 //! repeat it and say more: each call's exact answer.
 #![tactic(auto)]
 
+mod failed_call;
 mod fault;
 mod files;
 mod memory;

@@ -1,7 +1,7 @@
 ghost use Rattle.std.specs.Prelude.{◌≡◌, ◌≤◌, [], false, None, length, IfOk};
 
 use super::whole::{read_whole, write_whole};
-use crate::memory::FailedCall;
+use crate::failed_call::FailedCall;
 use crate::{Call, FetchFault, PlaceFault, Store};
 use std::alloc::Global;
 use std::marker::Model;
@@ -39,8 +39,8 @@ impl<'a, R: Files> FileStore<'a, R> {
     }
 }
 
-/// Why a call of the system failed.
-fn fetch_fault(error: &io::Error) -> FetchFault {
+/// Why a file wasn't opened: Memory where the system says that there was none for it, else Failed.
+fn open_fault(error: &io::Error) -> FetchFault {
     if error.kind() == io::ErrorKind::OutOfMemory {
         FetchFault::Memory
     } else {
@@ -48,7 +48,8 @@ fn fetch_fault(error: &io::Error) -> FetchFault {
     }
 }
 
-/// The content of a file, of at most `limit` bytes.
+/// The content of a file, of at most `limit` bytes. Failed where it can't be opened or read whole, Long
+/// where it has more, Memory where there is no room for it.
 fn read_file<R: Files>(
     files: &R,
     alloc: Global,
@@ -59,11 +60,12 @@ fn read_file<R: Files>(
 {
     match fs::open(files, name) {
         Ok(mut file) => read_whole(&mut file, alloc, limit),
-        Err(error) => Err(fetch_fault(&error)),
+        Err(error) => Err(open_fault(&error)),
     }
 }
 
-/// Makes a file hold the bytes, and says whether that went well.
+/// Makes a file hold the bytes, and says whether that went well. Want of memory in the system counts as
+/// a failure here, since nothing is known of the file then.
 fn write_file<R: Files>(files: &R, name: &str, bytes: &[u8]) -> bool {
     match fs::create(files, name) {
         Ok(mut file) => write_whole(&mut file, bytes),

@@ -2,8 +2,8 @@ ghost use Rattle.std.specs.Prelude.{◌≡◌, ◌≢◌, ◌≤◌, ◌<◌, �
 ghost use Rattle.viper_io.specs.Causes.{Failure, GrewBy, Rose, SameContents, risen};
 ghost use Rattle.viper_io.specs.Held.{content_of, counted, failed_call, fetch_answer, is_failing, shelf_holds};
 
-use super::FailedCall;
 use super::contents::Contents;
+use crate::failed_call::FailedCall;
 use crate::{Call, FetchFault, PlaceFault, Store};
 use std::alloc::{AllocError, Global};
 use std::marker::Model;
