@@ -52,6 +52,7 @@ pub struct Answer {
     pub text: Vec<u8>,
 }
 
+/// An answer with a fixed text.
 fn say(alloc: Global, status: Status, text: &[u8]) -> Result<Answer, AllocError>
     ensures { IfOk result (λ a. answer_view a ≡ say status text.now) }
 {
@@ -83,7 +84,7 @@ fn fetch_content<S: Store>(
     }
 }
 
-/// The image under a name.
+/// The image under a name, or why its content is none.
 fn fetch_image<S: Store>(
     alloc: Global,
     store: &mut S,
@@ -107,7 +108,7 @@ fn fetch_image<S: Store>(
     }
 }
 
-/// The plan under a name, over its image.
+/// The plan under a name, over its image, or why its content is none.
 fn fetch_plan<S: Store>(
     alloc: Global,
     store: &mut S,
@@ -132,7 +133,7 @@ fn fetch_plan<S: Store>(
     }
 }
 
-/// The certificate under a name.
+/// The certificate under a name, or why its content is none.
 fn fetch_cert<S: Store>(
     alloc: Global,
     store: &mut S,

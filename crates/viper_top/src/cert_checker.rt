@@ -66,6 +66,7 @@ fn successor<'a>(nodes: &'a [Node], listed: &[u32], at: Addr) -> Option<&'a Node
     None
 }
 
+/// Is there a node, and does it stand at the address?
 fn stands_at(node: Option<&Node>, at: Addr) -> bool
     ensures { result ≡ stands_at (option_map (λ n. node_view n.now) node.entry) at }
 {

@@ -34,12 +34,18 @@ const NODES: u32 = 65_536;
 /// How many successors a node has at the most.
 const SUCCESSORS: u8 = 65;
 
+/// How great a rank is at the most, in size: 2^62 instructions.
+const RANK: u64 = 1 << 62;
+
 /// The heading of a certificate: the letters VSBC, version 1, and no tracked cells.
 const HEADING: [u8; 6] = [0x56, 0x53, 0x42, 0x43, 1, 0];
 
 /// No links, and a flag that says nothing.
 const NO_RELATIONS: [u8; 4] = [0xFF, 0xFF, 0xFF, 6];
 
+// Each reader gives a value and the bytes after it, or Unbuilt where the bytes begin with none.
+
+/// A byte as a number.
 #[tactic(auto, unfolding(crate::specs::Reading::number_at))]
 fn u8_at(bytes: &[u8]) -> Result<(u8, &[u8]), FirstFault>
     ensures { Gives (λ x. (x.0, x.1.now)) result (number_at w8 bytes.now) }
@@ -50,6 +56,7 @@ fn u8_at(bytes: &[u8]) -> Result<(u8, &[u8]), FirstFault>
     }
 }
 
+/// Four bytes as a number, big-endian.
 #[tactic(auto, unfolding(crate::specs::Reading::number_at))]
 fn u32_at(bytes: &[u8]) -> Result<(u32, &[u8]), FirstFault>
     ensures { Gives (λ x. (x.0, x.1.now)) result (number_at w32 bytes.now) }
@@ -62,6 +69,7 @@ fn u32_at(bytes: &[u8]) -> Result<(u32, &[u8]), FirstFault>
     Ok((number, rest))
 }
 
+/// Eight bytes as a number, big-endian.
 #[tactic(auto, unfolding(crate::specs::Reading::number_at))]
 fn u64_at(bytes: &[u8]) -> Result<(u64, &[u8]), FirstFault>
     ensures { Gives (λ x. (x.0, x.1.now)) result (number_at w64 bytes.now) }
@@ -100,6 +108,7 @@ fn is_value(lo: u32, hi: u32, modulus: u32, residue: u32) -> bool
     }
 }
 
+/// What is known of a register: its least and its greatest number.
 #[tactic(auto, unfolding(crate::specs::Reading::value_at))]
 fn value_at(bytes: &[u8]) -> Result<(Interval, &[u8]), FirstFault>
     ensures { Gives (λ x. (x.0, x.1.now)) result (value_at bytes.now) }
@@ -130,6 +139,7 @@ fn index_at(count: u32, bytes: &[u8]) -> Result<(u32, &[u8]), FirstFault>
     Ok((number, rest))
 }
 
+/// So many numbers of nodes.
 fn listed_at(
     alloc: Global,
     count: u32,
@@ -148,7 +158,7 @@ fn listed_at(
     Ok((found, rest))
 }
 
-/// Numbers of nodes, as many as the first byte says.
+/// Numbers of nodes, as many as the first byte says, which is `most` at the most.
 #[tactic(auto, unfolding(crate::specs::Reading::indices_at))]
 fn indices_at(
     alloc: Global,
@@ -173,12 +183,13 @@ fn rank_at(bytes: &[u8]) -> Result<(i64, &[u8]), FirstFault>
     let (bits, rest) = u64_at(bytes)?;
     let rest = literal_at(&[0], rest)?;
     let rank = bits.cast_signed();
-    if rank.unsigned_abs() > 0x4000_0000_0000_0000 {
+    if rank.unsigned_abs() > RANK {
         return Err(FirstFault::Unbuilt);
     }
     Ok((rank, rest))
 }
 
+/// A node of a certificate of so many.
 #[tactic(auto, unfolding(crate::specs::Reading::node_at))]
 fn node_at(alloc: Global, count: u32, bytes: &[u8]) -> Result<(Node, &[u8]), FirstFault>
     ensures { Gives (λ x. (node_view x.0, x.1.now)) result (node_at count bytes.now) }
@@ -205,6 +216,7 @@ fn node_at(alloc: Global, count: u32, bytes: &[u8]) -> Result<(Node, &[u8]), Fir
     ))
 }
 
+/// All nodes of a certificate of so many.
 fn nodes_at(alloc: Global, count: u32, bytes: &[u8]) -> Result<(Vec<Node>, &[u8]), FirstFault>
     ensures { Gives (λ x. (nodes_view x.0.items, x.1.now)) result (many_at (node_at count) count bytes.now) }
 {
@@ -231,6 +243,7 @@ fn counted_at(alloc: Global, count: u32, bytes: &[u8]) -> Result<Cert, FirstFaul
     Ok(Cert { starts, nodes })
 }
 
+/// A certificate, which is all of the bytes.
 #[tactic(auto, unfolding(crate::specs::Reading::cert_of))]
 fn cert_of(alloc: Global, bytes: &[u8]) -> Result<Cert, FirstFault>
     ensures { Gives cert_view result (cert_of bytes.now) }

@@ -7,6 +7,7 @@ use memory_plan::address_digits;
 use std::alloc::{AllocError, Global};
 use viper_word::Addr;
 
+/// Appends the bound of a marker's line, and the line's end.
 fn push_bound(out: &mut Vec<u8>, alloc: Global, bound: Bound) -> Result<(), AllocError>
     ensures { OnOk result (out.new.items ≡ out.old.items ++ bound_text bound) }
 {
@@ -48,6 +49,7 @@ pub fn yes_text(alloc: Global, bounds: &[(Addr, Bound)]) -> Result<Vec<u8>, Allo
     Ok(out)
 }
 
+/// The name of a condition.
 fn cond_text(cond: Cond) -> &'static str
     ensures { result.now ≡ cond_text cond }
 {
@@ -62,6 +64,7 @@ fn cond_text(cond: Cond) -> &'static str
     }
 }
 
+/// Appends the place of a failure.
 fn push_place(out: &mut Vec<u8>, alloc: Global, place: Place) -> Result<(), AllocError>
     ensures { OnOk result (out.new.items ≡ out.old.items ++ place_text place) }
 {
