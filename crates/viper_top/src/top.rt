@@ -43,9 +43,11 @@ impl Status {
 /// Puts the text of a status.
 fn put<K: Sink>(out: &mut K, status: Status, text: &[u8]) -> Status
     requires { EndsAnswered status ⊎ (status ≡ Status.Usage) }
-    ensures put { EndsAnswered result ⊎ (result ≡ Status.Usage) → (result ≡ status) × Wrote (K.put_so_far out.old) text.now (K.put_so_far out.new) }
+    ensures put { EndsAnswered result ⊎ (result ≡ Status.Usage) → (result ≡ status)
+        × Wrote (K.put_so_far out.old) text.now (K.put_so_far out.new) }
     ensures outside { result ≡ Status.Outside → Rose (K.faults out.old) (K.faults out.new) }
-    ensures front { result ≡ Status.Outside → ((n : ℕ) × Wrote (K.put_so_far out.old) (take n text.now) (K.put_so_far out.new)) }
+    ensures front { result ≡ Status.Outside → ((n : ℕ)
+        × Wrote (K.put_so_far out.old) (take n text.now) (K.put_so_far out.new)) }
     ensures memory { result ≡ Status.Memory → K.put_so_far out.new ≡ K.put_so_far out.old }
 {
     match out.put(text) {
@@ -62,10 +64,18 @@ fn answer_words<S: Store, K: Sink>(
     store: &mut S,
     out: &mut K,
 ) -> Status
-    ensures answered { EndsAnswered result → AnswersRow (S.tells store.old) (S.holds store.old) (names_in words.now) (S.longs store.old) (S.longs store.new) result (K.put_so_far out.old) (K.put_so_far out.new) }
-    ensures usage { result ≡ Status.Usage → (names_in words.now ≡ None) × Wrote (K.put_so_far out.old) (codes "usage\n") (K.put_so_far out.new) }
-    ensures outside { result ≡ Status.Outside → RowFailed (names_in words.now) (S.failures store.old) (S.failures store.new) ⊎ Rose (K.faults out.old) (K.faults out.new) }
-    ensures outside_put { result ≡ Status.Outside → (K.put_so_far out.new ≡ K.put_so_far out.old) ⊎ LeftFront (S.tells store.old) (S.holds store.old) (names_in words.now) (S.longs store.old) (S.longs store.new) (K.faults out.old) (K.faults out.new) (K.put_so_far out.old) (K.put_so_far out.new) }
+    ensures answered { EndsAnswered result
+        → AnswersRow (S.tells store.old) (S.holds store.old) (names_in words.now)
+        (S.longs store.old) (S.longs store.new) result (K.put_so_far out.old) (K.put_so_far out.new) }
+    ensures usage { result ≡ Status.Usage → (names_in words.now ≡ None)
+        × Wrote (K.put_so_far out.old) (codes "usage\n") (K.put_so_far out.new) }
+    ensures outside { result ≡ Status.Outside
+        → RowFailed (names_in words.now) (S.failures store.old) (S.failures store.new)
+        ⊎ Rose (K.faults out.old) (K.faults out.new) }
+    ensures outside_put { result ≡ Status.Outside → (K.put_so_far out.new ≡ K.put_so_far out.old)
+        ⊎ LeftFront (S.tells store.old) (S.holds store.old) (names_in words.now)
+        (S.longs store.old) (S.longs store.new) (K.faults out.old) (K.faults out.new)
+        (K.put_so_far out.old) (K.put_so_far out.new) }
     ensures memory { result ≡ Status.Memory → K.put_so_far out.new ≡ K.put_so_far out.old }
     ensures same { SameContents S.holds store.old store.new }
 {
@@ -89,25 +99,43 @@ pub fn viper_main<S: Store, K: Sink>(
     out: &mut K,
 ) -> Status
     // Done: every fair run is safe, and from each marker the next is met within the number put for it.
-    ensures done { result ≡ Status.Done → Headline (S.tells store.old) (S.holds store.old) (names_in words.now) (K.put_so_far out.old) (K.put_so_far out.new) }
+    ensures done { result ≡ Status.Done
+        → Headline (S.tells store.old) (S.holds store.old) (names_in words.now)
+        (K.put_so_far out.old) (K.put_so_far out.new) }
     // Refused: the first local condition that fails was put.
-    ensures refused { result ≡ Status.Refused → DeclinedRow (S.tells store.old) (S.holds store.old) (names_in words.now) (K.put_so_far out.old) (K.put_so_far out.new) }
+    ensures refused { result ≡ Status.Refused
+        → DeclinedRow (S.tells store.old) (S.holds store.old) (names_in words.now)
+        (K.put_so_far out.old) (K.put_so_far out.new) }
     // Done, Refused and Input: the answer for what the contents are read as, with its text.
-    ensures answered { EndsAnswered result → AnswersRow (S.tells store.old) (S.holds store.old) (names_in words.now) (S.longs store.old) (S.longs store.new) result (K.put_so_far out.old) (K.put_so_far out.new) }
+    ensures answered { EndsAnswered result
+        → AnswersRow (S.tells store.old) (S.holds store.old) (names_in words.now)
+        (S.longs store.old) (S.longs store.new) result (K.put_so_far out.old) (K.put_so_far out.new) }
     // Usage: no row has these words.
-    ensures usage { result ≡ Status.Usage → (names_in words.now ≡ None) × Wrote (K.put_so_far out.old) (codes "usage\n") (K.put_so_far out.new) }
+    ensures usage { result ≡ Status.Usage → (names_in words.now ≡ None)
+        × Wrote (K.put_so_far out.old) (codes "usage\n") (K.put_so_far out.new) }
     // Outside: a fetch of one of the row's names failed, or the put.
-    ensures outside { result ≡ Status.Outside → RowFailed (names_in words.now) (S.failures store.old) (S.failures store.new) ⊎ Rose (K.faults out.old) (K.faults out.new) }
+    ensures outside { result ≡ Status.Outside
+        → RowFailed (names_in words.now) (S.failures store.old) (S.failures store.new)
+        ⊎ Rose (K.faults out.old) (K.faults out.new) }
     // After it nothing was put, but for the first bytes of a text where the put failed.
-    ensures outside_put { result ≡ Status.Outside → (K.put_so_far out.new ≡ K.put_so_far out.old) ⊎ LeftFront (S.tells store.old) (S.holds store.old) (names_in words.now) (S.longs store.old) (S.longs store.new) (K.faults out.old) (K.faults out.new) (K.put_so_far out.old) (K.put_so_far out.new) }
+    ensures outside_put { result ≡ Status.Outside → (K.put_so_far out.new ≡ K.put_so_far out.old)
+        ⊎ LeftFront (S.tells store.old) (S.holds store.old) (names_in words.now)
+        (S.longs store.old) (S.longs store.new) (K.faults out.old) (K.faults out.new)
+        (K.put_so_far out.old) (K.put_so_far out.new) }
     // After Memory nothing was put.
     ensures memory { result ≡ Status.Memory → K.put_so_far out.new ≡ K.put_so_far out.old }
     // A row whose fetches and put don't fail: one of these three, or want of memory.
-    ensures ends { names_in words.now ≢ None → S.failures store.new ≡ S.failures store.old → (Rose (K.faults out.old) (K.faults out.new) → ⊥) → result ≢ Status.Memory → EndsAnswered result }
+    ensures ends { names_in words.now ≢ None → S.failures store.new ≡ S.failures store.old
+        → (Rose (K.faults out.old) (K.faults out.new) → ⊥) → result ≢ Status.Memory
+        → EndsAnswered result }
     // Contents of their forms and limits, and no failure: the verdict, or want of memory.
-    ensures complete { (names : Names) (image : List (ℕ × ℕ)) (plan : PlanLines) (cert : Certificate) → names_in words.now ≡ Some names
-        → AreGiven (S.tells store.old) (S.holds store.old) names image plan cert → S.failures store.new ≡ S.failures store.old → (Rose (K.faults out.old) (K.faults out.new) → ⊥)
-        → result ≢ Status.Memory → IsSaid (verdict_answer (verdict_of plan cert)) result (K.put_so_far out.old) (K.put_so_far out.new) }
+    ensures complete { (names : Names) (image : List (ℕ × ℕ)) (plan : PlanLines) (cert : Certificate)
+        → names_in words.now ≡ Some names
+        → AreGiven (S.tells store.old) (S.holds store.old) names image plan cert
+        → S.failures store.new ≡ S.failures store.old
+        → (Rose (K.faults out.old) (K.faults out.new) → ⊥) → result ≢ Status.Memory
+        → IsSaid (verdict_answer (verdict_of plan cert)) result
+        (K.put_so_far out.old) (K.put_so_far out.new) }
     // Nothing is placed.
     ensures same { SameContents S.holds store.old store.new }
 {
@@ -117,9 +145,13 @@ pub fn viper_main<S: Store, K: Sink>(
 /// `viper_main` over a shelf and a page that never fail: Outside never comes.
 pub fn sure_main(alloc: Global, words: &[&str], store: &mut SureShelf, out: &mut SurePage) -> Status
     ensures sure { result ≢ Status.Outside }
-    ensures done { result ≡ Status.Done → Headline true (sure_holds store.old) (names_in words.now) (Some out.old) (Some out.new) }
-    ensures answered { EndsAnswered result → AnswersRow true (sure_holds store.old) (names_in words.now) store.old.longs store.new.longs result (Some out.old) (Some out.new) }
-    ensures usage { result ≡ Status.Usage → (names_in words.now ≡ None) × Wrote (Some out.old) (codes "usage\n") (Some out.new) }
+    ensures done { result ≡ Status.Done
+        → Headline true (sure_holds store.old) (names_in words.now) (Some out.old) (Some out.new) }
+    ensures answered { EndsAnswered result
+        → AnswersRow true (sure_holds store.old) (names_in words.now)
+        store.old.longs store.new.longs result (Some out.old) (Some out.new) }
+    ensures usage { result ≡ Status.Usage → (names_in words.now ≡ None)
+        × Wrote (Some out.old) (codes "usage\n") (Some out.new) }
     ensures memory { result ≡ Status.Memory → out.new ≡ out.old }
     ensures ends { names_in words.now ≢ None → result ≢ Status.Memory → EndsAnswered result }
     ensures same { SameContents sure_holds store.old store.new }
