@@ -2,11 +2,14 @@ ghost use Rattle.std.specs.Prelude.{◌≡◌, ◌<◌, option_map};
 ghost use Rattle.viper_word.specs.Machine.{computed, shifted, compared, kind_of};
 
 use std::marker::Model;
-use viper_decode::Fields;
+use viper_decode::{Fields, function, shift_kind};
 use viper_word::{
     Kind, Word, add_exact, add_wrap, compare, left_through, right_through, sar, shl_exact,
     sub_exact, sub_wrap,
 };
+
+/// How many kinds of comparison there are. Codes from here on have them again, and join the old B.
+const KINDS: u8 = 8;
 
 /// The result of a function, and B after it.
 #[derive(Drop)]
@@ -24,34 +27,35 @@ impl Model for Computed {
 }
 
 /// What the function of an instruction comes to, on the value `r` of its register, the operand `m`
-/// and B. None exactly where the signed result isn't a word's, which stops the machine.
+/// and B: the rows are those of docs/MACHINE.md, "Functions". None exactly where the signed result
+/// isn't a word's, which stops the machine.
 #[tactic(auto, unfolding(viper_word::specs::Machine::computed))]
 pub(crate) fn compute(i: Fields, r: Word, m: Word, b: bool) -> Option<Computed>
     requires { i.f < 13 }
     ensures { result ≡ computed i r.0 m.0 b }
 {
     macro_rules! functions {
-        ($($code:literal $name:ident => $outcome:expr,)*) => {
+        ($($name:ident => $outcome:expr,)*) => {
             match i.f {
-                $($code => $outcome,)*
+                $(function::$name => $outcome,)*
                 _ => unreachable!(),
             }
         };
     }
     functions! {
-        0 NEG => keeps(sub_wrap(Word(0), m).0, b),
-        1 CALL => keeps(m, b),
-        2 INP => keeps(m, b),
-        3 READ => keeps(m, b),
-        4 ADDB => changes(add_wrap(r, m)),
-        5 ADDS => exact(add_exact(r, m), b),
-        6 SUBB => changes(sub_wrap(r, m)),
-        7 SUBS => exact(sub_exact(r, m), b),
-        8 XOR => keeps(Word(r.0 ^ m.0), b),
-        9 AND => keeps(Word(r.0 & m.0), b),
-        10 NOR => keeps(Word(!(r.0 | m.0)), b),
-        11 ANDN => keeps(Word(r.0 & !m.0), b),
-        12 SHIFT => shift(i.m, r, b),
+        NEG => keeps(sub_wrap(Word(0), m).0, b),
+        CALL => keeps(m, b),
+        INP => keeps(m, b),
+        READ => keeps(m, b),
+        ADDB => changes(add_wrap(r, m)),
+        ADDS => exact(add_exact(r, m), b),
+        SUBB => changes(sub_wrap(r, m)),
+        SUBS => exact(sub_exact(r, m), b),
+        XOR => keeps(Word(r.0 ^ m.0), b),
+        AND => keeps(Word(r.0 & m.0), b),
+        NOR => keeps(Word(!(r.0 | m.0)), b),
+        ANDN => keeps(Word(r.0 & !m.0), b),
+        SHIFT => shift(i.m, r, b),
     }
 }
 
@@ -86,14 +90,14 @@ fn shift(kind: u8, r: Word, b: bool) -> Option<Computed>
     ensures { result ≡ shifted kind r.0 b }
 {
     match kind {
-        0 => keeps(sar(r), b),
-        1 => changes(right_through(r, b)),
-        2 => exact(shl_exact(r), b),
+        shift_kind::RIGHT => keeps(sar(r), b),
+        shift_kind::RIGHT_THROUGH_B => changes(right_through(r, b)),
+        shift_kind::LEFT => exact(shl_exact(r), b),
         _ => changes(left_through(r, b)),
     }
 }
 
-/// The comparison of a code.
+/// The comparison of a code: the rows are those of docs/MACHINE.md, "Comparisons".
 #[tactic(auto, unfolding(viper_word::specs::Machine::kind_of))]
 fn kind_of(code: u8) -> Kind
     ensures { result ≡ kind_of code }
@@ -115,6 +119,6 @@ fn kind_of(code: u8) -> Kind
 pub(crate) fn compared(i: Fields, r: Word, m: Word, b: bool) -> bool
     ensures { result ≡ compared i r.0 m.0 b }
 {
-    let holds = compare(kind_of(i.f % 8), r, m);
-    if i.f >= 8 { b || holds } else { holds }
+    let holds = compare(kind_of(i.f % KINDS), r, m);
+    if i.f >= KINDS { b || holds } else { holds }
 }

@@ -5,17 +5,14 @@ ghost use Rattle.viper_next.specs.Answers.{IgnoresAnswer};
 
 mod step;
 
-use crate::instruction::{is_input, is_skipped};
+use crate::instruction::is_skipped;
 use std::alloc::{AllocError, Global};
 use std::marker::Model;
-use viper_decode::legal;
+use viper_decode::{is_input, legal};
 use viper_word::{Addr, Memory, Word};
 
 /// How many words the memory has.
-const WORDS: usize = 0x10_0000;
-
-/// The last address.
-const LAST: u32 = 0xF_FFFF;
+const WORDS: usize = Addr::LAST as usize + 1;
 
 /// A machine: its registers, and 2^20 words of memory. Contracts see it as the record `State` of
 /// `viper_word/specs/Machine`.
@@ -137,7 +134,7 @@ impl Machine {
         ensures address { result ≡ wants self.now }
         ensures unread { IfNone result (IgnoresAnswer self.now) }
     {
-        if self.stop || self.p.get() == LAST {
+        if self.stop || self.p.get() == Addr::LAST {
             return None;
         }
         let i = self.current();

@@ -1,13 +1,18 @@
+//! One step of the machine. The numbers of rules are those of docs/MACHINE.md, "One step".
+
 ghost use Rattle.std.specs.Prelude.{◌≡◌, ◌<◌, ◌^◌, ◌-◌, not, ◌&&◌, true, false, IfOk, IfErr, OnOk, OnErr};
 ghost use Rattle.viper_word.specs.Fields.{is_illegal, is_function, is_shift, has_address, is_jump};
 ghost use Rattle.viper_word.specs.Machine.{IsState, current, register, address, is_lawful, operand, computed, written, finished, performed, executed, step, next};
 ghost use Rattle.viper_next.specs.Effects.{effect_at, effect_of};
 
-use super::{LAST, Machine};
+use super::Machine;
 use crate::computing::{Computed, compared, compute};
 use crate::effect::Effect;
-use crate::instruction::{has_address, is_input, is_shift, is_skipped};
-use viper_decode::{Fields, decode, legal};
+use crate::instruction::is_skipped;
+use viper_decode::{
+    Fields, decode, destination, function, has_address, is_function, is_input, is_jump, is_output,
+    legal, mode, register,
+};
 use viper_word::{Addr, Cause, Word};
 
 impl Machine {
@@ -23,9 +28,9 @@ impl Machine {
         ensures { result.0 ≡ register self.now r }
     {
         match r {
-            0 => self.a,
-            1 => self.x,
-            2 => self.y,
+            register::A => self.a,
+            register::X => self.x,
+            register::Y => self.y,
             _ => Word(self.p.get() + 1),
         }
     }
@@ -35,8 +40,8 @@ impl Machine {
         ensures { result ≡ address i self.now }
     {
         match i.m {
-            2 => i.field.get().wrapping_add(self.x.0),
-            3 => i.field.get().wrapping_add(self.y.0),
+            mode::AT_FIELD_PLUS_X => i.field.get().wrapping_add(self.x.0),
+            mode::AT_FIELD_PLUS_Y => i.field.get().wrapping_add(self.y.0),
             _ => i.field.get(),
         }
     }
@@ -67,114 +72,6 @@ impl Machine {
         compute(i, self.register(i.r), self.operand(i, answer), self.b)
     }
 
-    /// Writes a result and B, the link of a CALL into Y, and P.
-    #[tactic(auto, unfolding(viper_word::specs::Machine::written))]
-    fn write(&mut self, i: Fields, computed: Computed)
-        requires goes_on { self.old.p < 2 ^ 20 - 1 }
-        requires lawful { (is_jump i && not (is_lawful computed.value)) ≡ false }
-        requires function { is_function i ≡ true }
-        ensures { self.new ≡ written i self.old computed }
-    {
-        let after = self.p.next();
-        if i.f == 1 {
-            self.y = Word(after.get());
-        }
-        self.b = computed.b;
-        self.p = after;
-        match i.d {
-            0 => self.a = computed.value,
-            1 => self.x = computed.value,
-            2 => self.y = computed.value,
-            _ => self.p = Addr::new(computed.value.0).unwrap(),
-        }
-    }
-
-    /// Writes what a function came to, unless its operation stops or the target of a jump isn't
-    /// lawful.
-    #[tactic(auto, unfolding(viper_word::specs::Machine::finished))]
-    fn finish(&mut self, i: Fields, computed: Option<Computed>) -> Result<(), Cause>
-        requires goes_on { self.old.p < 2 ^ 20 - 1 }
-        requires function { is_function i ≡ true }
-        ensures done { OnOk result (finished i self.old computed ≡ Ok self.new) }
-        ensures stops { IfErr result (λ cause. finished i self.old computed ≡ Err cause) }
-        ensures kept { OnErr result (self.new ≡ self.old) }
-    {
-        let Some(computed) = computed else {
-            return Err(Cause::Overflow);
-        };
-        if i.d >= 3 && Addr::new(computed.value.0).is_none() {
-            return Err(Cause::Target);
-        }
-        self.write(i, computed);
-        Ok(())
-    }
-
-    /// Performs an instruction that is legal, isn't skipped, and has no unlawful address.
-    #[tactic(auto, unfolding(viper_word::specs::Machine::performed, crate::specs::Effects::effect_at))]
-    fn perform(&mut self, i: Fields, answer: Word) -> Result<Effect, Cause>
-        requires goes_on { self.old.p < 2 ^ 20 - 1 }
-        requires legal { is_illegal i ≡ false }
-        requires lawful { (has_address i && not (is_lawful (address i self.old))) ≡ false }
-        ensures done { OnOk result (performed i self.old answer.0 ≡ Ok self.new) }
-        ensures effect { IfOk result (λ e. e ≡ effect_at i self.old) }
-        ensures stops { IfErr result (λ cause. performed i self.old answer.0 ≡ Err cause) }
-        ensures kept { OnErr result (self.new ≡ self.old) }
-    {
-        if i.c {
-            self.b = compared(i, self.register(i.r), self.operand(i, answer), self.b);
-            self.p = self.p.next();
-            return Ok(Effect::Quiet);
-        }
-        if i.d < 6 {
-            self.finish(i, self.outcome(i, answer))?;
-            return Ok(Effect::Quiet);
-        }
-        let at = Addr::new(self.address(i)).unwrap();
-        let word = self.register(i.r);
-        self.p = self.p.next();
-        if i.d == 6 {
-            return Ok(Effect::Out(at, word));
-        }
-        self.load(at, word);
-        Ok(Effect::Wrote(at, word))
-    }
-
-    /// Performs the instruction, unless it is illegal, is skipped, or has an unlawful address.
-    #[tactic(auto, unfolding(viper_word::specs::Machine::executed, crate::specs::Effects::effect_at))]
-    fn execute(&mut self, i: Fields, answer: Word) -> Result<Effect, Cause>
-        requires goes_on { self.old.p < 2 ^ 20 - 1 }
-        ensures done { OnOk result (executed i self.old answer.0 ≡ Ok self.new) }
-        ensures effect { IfOk result (λ e. e ≡ effect_at i self.old) }
-        ensures stops { IfErr result (λ cause. executed i self.old answer.0 ≡ Err cause) }
-        ensures kept { OnErr result (self.new ≡ self.old) }
-    {
-        if !legal(i) {
-            return Err(Cause::Illegal);
-        }
-        if is_skipped(i, self.b) {
-            self.p = self.p.next();
-            return Ok(Effect::Quiet);
-        }
-        if has_address(i) && Addr::new(self.address(i)).is_none() {
-            return Err(Cause::Address);
-        }
-        self.perform(i, answer)
-    }
-
-    /// One instruction of a machine that isn't stopped, or why it stops: then nothing has changed.
-    #[tactic(auto, unfolding(viper_word::specs::Machine::step))]
-    fn advance(&mut self, answer: Word) -> Result<Effect, Cause>
-        ensures done { OnOk result (step self.old answer.0 ≡ Ok self.new) }
-        ensures effect { IfOk result (λ e. e ≡ effect_at (current self.old) self.old) }
-        ensures stops { IfErr result (λ cause. step self.old answer.0 ≡ Err cause) }
-        ensures kept { OnErr result (self.new ≡ self.old) }
-    {
-        if self.p.get() == LAST {
-            return Err(Cause::End);
-        }
-        self.execute(self.current(), answer)
-    }
-
     /// Runs one instruction, with the peripheral's answer, which is looked at only where `wants` gave
     /// an address. A stopped machine is quiet and stays as it is.
     #[tactic(auto, using(crate::proofs::EffectLemmas::effect_known), unfolding(viper_word::specs::Machine::next, crate::specs::Effects::effect_of, crate::specs::Effects::effect_of_step))]
@@ -193,6 +90,124 @@ impl Machine {
                 self.p = self.p.next();
                 Effect::Stopped(cause)
             }
+        }
+    }
+
+    /// One instruction of a machine that isn't stopped, by rule 1 and those that follow, or why it
+    /// stops: then nothing has changed.
+    #[tactic(auto, unfolding(viper_word::specs::Machine::step))]
+    fn advance(&mut self, answer: Word) -> Result<Effect, Cause>
+        ensures done { OnOk result (step self.old answer.0 ≡ Ok self.new) }
+        ensures effect { IfOk result (λ e. e ≡ effect_at (current self.old) self.old) }
+        ensures stops { IfErr result (λ cause. step self.old answer.0 ≡ Err cause) }
+        ensures kept { OnErr result (self.new ≡ self.old) }
+    {
+        // 1. P is the last address
+        if self.p.get() == Addr::LAST {
+            return Err(Cause::End);
+        }
+        self.execute(self.current(), answer)
+    }
+
+    /// Performs the instruction, unless it is illegal, is skipped, or has an unlawful address: rules 2
+    /// to 4.
+    #[tactic(auto, unfolding(viper_word::specs::Machine::executed, crate::specs::Effects::effect_at))]
+    fn execute(&mut self, i: Fields, answer: Word) -> Result<Effect, Cause>
+        requires goes_on { self.old.p < 2 ^ 20 - 1 }
+        ensures done { OnOk result (executed i self.old answer.0 ≡ Ok self.new) }
+        ensures effect { IfOk result (λ e. e ≡ effect_at i self.old) }
+        ensures stops { IfErr result (λ cause. executed i self.old answer.0 ≡ Err cause) }
+        ensures kept { OnErr result (self.new ≡ self.old) }
+    {
+        // 2. the word is illegal
+        if !legal(i) {
+            return Err(Cause::Illegal);
+        }
+        // 3. B forbids the jump: P goes on, and nothing else changes
+        if is_skipped(i, self.b) {
+            self.p = self.p.next();
+            return Ok(Effect::Quiet);
+        }
+        // 4. the address isn't lawful
+        if has_address(i) && Addr::new(self.address(i)).is_none() {
+            return Err(Cause::Address);
+        }
+        self.perform(i, answer)
+    }
+
+    /// Performs an instruction that is legal, isn't skipped, and has no unlawful address: rules 5 to 7
+    /// for a function, and rule 7 for a comparison, an output and a store.
+    #[tactic(auto, unfolding(viper_word::specs::Machine::performed, crate::specs::Effects::effect_at))]
+    fn perform(&mut self, i: Fields, answer: Word) -> Result<Effect, Cause>
+        requires goes_on { self.old.p < 2 ^ 20 - 1 }
+        requires legal { is_illegal i ≡ false }
+        requires lawful { (has_address i && not (is_lawful (address i self.old))) ≡ false }
+        ensures done { OnOk result (performed i self.old answer.0 ≡ Ok self.new) }
+        ensures effect { IfOk result (λ e. e ≡ effect_at i self.old) }
+        ensures stops { IfErr result (λ cause. performed i self.old answer.0 ≡ Err cause) }
+        ensures kept { OnErr result (self.new ≡ self.old) }
+    {
+        if i.c {
+            self.b = compared(i, self.register(i.r), self.operand(i, answer), self.b);
+            self.p = self.p.next();
+            return Ok(Effect::Quiet);
+        }
+        if is_function(i) {
+            self.finish(i, self.outcome(i, answer))?;
+            return Ok(Effect::Quiet);
+        }
+        let at = Addr::new(self.address(i)).unwrap();
+        let word = self.register(i.r);
+        self.p = self.p.next();
+        if is_output(i) {
+            return Ok(Effect::Out(at, word));
+        }
+        self.load(at, word);
+        Ok(Effect::Wrote(at, word))
+    }
+
+    /// Writes what a function came to, unless its operation stops or the target of a jump isn't
+    /// lawful: rules 5 to 7.
+    #[tactic(auto, unfolding(viper_word::specs::Machine::finished))]
+    fn finish(&mut self, i: Fields, computed: Option<Computed>) -> Result<(), Cause>
+        requires goes_on { self.old.p < 2 ^ 20 - 1 }
+        requires function { is_function i ≡ true }
+        ensures done { OnOk result (finished i self.old computed ≡ Ok self.new) }
+        ensures stops { IfErr result (λ cause. finished i self.old computed ≡ Err cause) }
+        ensures kept { OnErr result (self.new ≡ self.old) }
+    {
+        // 5. the operation stops
+        let Some(computed) = computed else {
+            return Err(Cause::Overflow);
+        };
+        // 6. the target of a jump isn't lawful
+        if is_jump(i) && Addr::new(computed.value.0).is_none() {
+            return Err(Cause::Target);
+        }
+        // 7. the results are written
+        self.write(i, computed);
+        Ok(())
+    }
+
+    /// Writes a result and B, the link of a CALL into Y, and P.
+    #[tactic(auto, unfolding(viper_word::specs::Machine::written))]
+    fn write(&mut self, i: Fields, computed: Computed)
+        requires goes_on { self.old.p < 2 ^ 20 - 1 }
+        requires lawful { (is_jump i && not (is_lawful computed.value)) ≡ false }
+        requires function { is_function i ≡ true }
+        ensures { self.new ≡ written i self.old computed }
+    {
+        let after = self.p.next();
+        if i.f == function::CALL {
+            self.y = Word(after.get());
+        }
+        self.b = computed.b;
+        self.p = after;
+        match i.d {
+            destination::A => self.a = computed.value,
+            destination::X => self.x = computed.value,
+            destination::Y => self.y = computed.value,
+            _ => self.p = Addr::new(computed.value.0).unwrap(),
         }
     }
 }
