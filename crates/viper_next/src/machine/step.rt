@@ -35,7 +35,7 @@ impl Machine {
         }
     }
 
-    /// The address of an instruction: the field, or the field plus X or Y modulo 2^32.
+    /// The effective address of an instruction: the field, or the field plus X or Y modulo 2^32.
     pub(super) fn address(&self, i: Fields) -> u32
         ensures { result ≡ address i self.now }
     {
