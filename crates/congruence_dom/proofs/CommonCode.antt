@@ -1,5 +1,5 @@
 -- The first common member, as the code finds it.
-use Rattle.std.specs.Prelude.{◌≡◌, ℕ, ◌+◌, ◌-◌, ◌*◌, ◌/◌, ◌%◌, ◌<◌, ◌≤◌, ◌^◌, ℤ, pos, ◌+ℤ◌, ◌-ℤ◌, ◌≤ℤ◌, ◌<ℤ◌, negsuc, neg_ℤ, nat_abs, Option, Some, None, IsSomeAnd, IfSome}
+use Rattle.std.specs.Prelude.{◌≡◌, ℕ, ◌+◌, ◌-◌, ◌*◌, ◌/◌, ◌%◌, ◌<◌, ◌≤◌, ℤ, pos, ◌+ℤ◌, ◌-ℤ◌, ◌≤ℤ◌, ◌<ℤ◌, negsuc, neg_ℤ, nat_abs, Option, Some, None, IsSomeAnd, IfSome}
 use Rattle.std.specs.Int.{w64, cast_signed, cast_unsigned, int_rem_euclid}
 use Rattle.std.proofs.Math.Path.{ap₂}
 use Rattle.std.specs.Int.RustNames.{FitsSigned}
@@ -10,6 +10,7 @@ use Rattle.std.proofs.lemmas.Int.{ints}
 use Rattle.viper_word.specs.Words.{least_signed, greatest_signed, IsSigned}
 use Rattle.num_domain.specs.Domain.{Has}
 use Rattle.num_domain.specs.Options.{bind}
+use Rattle.congruence_dom.specs.Limits.{row_limit}
 use Rattle.congruence_dom.specs.Multiples.{Divides, Divides-sum, Divides-difference, Divides_is, small_multiple, rem_divides, rem_bounds}
 use Rattle.congruence_dom.specs.Congruences.{mod_of, least_from, next_common, through, refine_eq, congruences}
 use Rattle.congruence_dom.specs.CongruenceOrder.{has_parts, parts_has, least_is, least_first, only_member}
@@ -171,7 +172,7 @@ first_and a b i n q h s k =
 
 -- ---- numbers of the code
 
-pub fits_small : (z : ℤ) → neg_ℤ (pos (2 ^ 40)) ≤ℤ z → z ≤ℤ pos (2 ^ 40) → FitsSigned w64 z
+pub fits_small : (z : ℤ) → neg_ℤ (pos row_limit) ≤ℤ z → z ≤ℤ pos row_limit → FitsSigned w64 z
 fits_small (pos n) l h = record { sfits = omega (arith, ints) }
 fits_small (negsuc n) l h = record { sfits = omega (arith, ints) }
 

@@ -1,4 +1,5 @@
 pub mod Form
+pub mod Limits
 pub mod Gcd
 pub mod Multiples
 pub mod Search

@@ -1,9 +1,10 @@
 ghost use Rattle.std.specs.Prelude.{◌≡◌, ◌<◌, ◌^◌, ◌≤ℤ◌, ◌+ℤ◌, pos};
 ghost use Rattle.viper_word.specs.Words.{least_signed};
 
-use crate::congruence::{Congruence, HIGH, LOW};
+use crate::congruence::Congruence;
 use crate::divisors::solve;
 use num_domain::NumDomain;
+use viper_word::{GREATEST_SIGNED, LEAST_SIGNED};
 
 impl Congruence {
     ghost use Rattle.congruence_dom.specs.Congruences.{mod_of, refine_eq};
@@ -15,7 +16,7 @@ impl Congruence {
     pub(crate) fn common(&self, other: &Congruence) -> Option<Congruence>
         ensures { result ≡ refine_eq self.now other.now }
     {
-        let first = self.next_common(other, LOW)?;
+        let first = self.next_common(other, LEAST_SIGNED)?;
         match self.next_common(other, first + 1) {
             None => Congruence::make(0, first),
             Some(second) => Congruence::make((second - first).unsigned_abs(), first),
@@ -58,7 +59,7 @@ impl Congruence {
         let gap = (other.residue - from).rem_euclid(size as i64) as u64;
         let steps = solve(self.divisor() % size, gap, size)?;
         let distance = self.divisor() * steps;
-        let room = HIGH.abs_diff(from);
+        let room = GREATEST_SIGNED.abs_diff(from);
         if distance <= room {
             Some(from + distance as i64)
         } else {

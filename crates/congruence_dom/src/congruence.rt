@@ -2,13 +2,7 @@ ghost use Rattle.std.specs.Prelude.{◌≡◌, ℤ, IfSome};
 ghost use Rattle.congruence_dom.specs.Form.{IsForm};
 
 use num_domain::{NumDomain, Thresholds, signed};
-use viper_word::Kind;
-
-/// The least signed value of a word.
-pub(crate) const LOW: i64 = -2_147_483_648;
-
-/// The greatest signed value of a word.
-pub(crate) const HIGH: i64 = 2_147_483_647;
+use viper_word::{GREATEST_SIGNED, Kind, LEAST_SIGNED};
 
 /// All signed values of words with one residue. The modulus 0 stands for the single value `residue`;
 /// else the modulus is from 1 to 4294967295 and the residue is from 0 below it.
@@ -48,9 +42,9 @@ impl NumDomain for Congruence {
         let m = self.divisor();
         let gap = (other.residue - self.residue).unsigned_abs();
         if m == 0 {
-            (other.divisor() == 0) & (gap == 0)
+            other.divisor() == 0 && gap == 0
         } else {
-            (other.divisor() % m == 0) & (gap % m == 0)
+            other.divisor() % m == 0 && gap % m == 0
         }
     }
 
@@ -172,12 +166,12 @@ impl NumDomain for Congruence {
     }
 
     fn least_from(&self, n: i64) -> Option<i64> {
-        let start = n.max(LOW);
-        if start > HIGH {
+        let start = n.max(LEAST_SIGNED);
+        if start > GREATEST_SIGNED {
             return None;
         }
         let found = Congruence::next_from(self.divisor(), self.residue, start);
-        if n <= found && found <= HIGH {
+        if n <= found && found <= GREATEST_SIGNED {
             Some(found)
         } else {
             None
@@ -185,12 +179,12 @@ impl NumDomain for Congruence {
     }
 
     fn greatest_to(&self, n: i64) -> Option<i64> {
-        let start = n.min(HIGH);
-        if start < LOW {
+        let start = n.min(GREATEST_SIGNED);
+        if start < LEAST_SIGNED {
             return None;
         }
         let found = Congruence::next_to(self.divisor(), self.residue, start);
-        if LOW <= found && found <= n {
+        if LEAST_SIGNED <= found && found <= n {
             Some(found)
         } else {
             None

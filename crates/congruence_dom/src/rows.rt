@@ -1,10 +1,18 @@
 ghost use Rattle.std.specs.Prelude.{◌≡◌, ◌&&◌, ◌≤◌, ◌<◌, ◌-◌, ◌^◌, ◌≤ℤ◌, pos, neg_ℤ, nat_eq};
 ghost use Rattle.viper_word.specs.Words.{IsSigned};
 ghost use Rattle.congruence_dom.specs.Gcd.{gcd};
+ghost use Rattle.congruence_dom.specs.Limits.{row_limit, difference_limit};
 
-use crate::congruence::{Congruence, HIGH, LOW};
+use crate::congruence::Congruence;
 use crate::divisors::gcd_of;
 use num_domain::signed;
+use viper_word::{GREATEST_SIGNED, LEAST_SIGNED};
+
+/// The number of words.
+const WORDS: u64 = 0x1_0000_0000;
+
+/// The greatest modulus of a congruence.
+const GREATEST_MODULUS: u64 = WORDS - 1;
 
 impl Congruence {
     ghost use Rattle.congruence_dom.specs.Congruences.{reduce, next_from, next_to, make, mod_of, join_modulus, common_modulus, wrapped_modulus, constant, sar, left_through, all_on};
@@ -27,7 +35,7 @@ impl Congruence {
     pub(crate) fn are_single(&self, other: &Congruence) -> bool
         ensures { result ≡ (nat_eq (mod_of self.now) 0 && nat_eq (mod_of other.now) 0) }
     {
-        self.is_single() & other.is_single()
+        self.is_single() && other.is_single()
     }
 
     /// The single value of a number.
@@ -71,28 +79,28 @@ impl Congruence {
         ensures value { result ≡ gcd m (2 ^ 32) }
         ensures small { result ≤ 2 ^ 32 }
     {
-        gcd_of(m, 0x1_0000_0000)
+        gcd_of(m, WORDS)
     }
 
     /// What is left of a number.
     pub(crate) fn reduce(m: u64, z: i64) -> i64
-        requires small { m < 2 ^ 40 }
-        requires z_low { neg_ℤ (pos (2 ^ 41)) ≤ℤ z }
-        requires z_high { z ≤ℤ pos (2 ^ 41) }
+        requires small { m < row_limit }
+        requires z_low { neg_ℤ (pos difference_limit) ≤ℤ z }
+        requires z_high { z ≤ℤ pos difference_limit }
         ensures value { result ≡ reduce m z }
-        ensures low { neg_ℤ (pos (2 ^ 41)) ≤ℤ result }
-        ensures high { result ≤ℤ pos (2 ^ 41) }
+        ensures low { neg_ℤ (pos difference_limit) ≤ℤ result }
+        ensures high { result ≤ℤ pos difference_limit }
     {
         if m == 0 { z } else { z.rem_euclid(m as i64) }
     }
 
     /// The least number from `n` on with the residue of `z`.
     pub(crate) fn next_from(m: u64, z: i64, n: i64) -> i64
-        requires small { m < 2 ^ 40 }
-        requires z_low { neg_ℤ (pos (2 ^ 40)) ≤ℤ z }
-        requires z_high { z ≤ℤ pos (2 ^ 40) }
-        requires n_low { neg_ℤ (pos (2 ^ 40)) ≤ℤ n }
-        requires n_high { n ≤ℤ pos (2 ^ 40) }
+        requires small { m < row_limit }
+        requires z_low { neg_ℤ (pos row_limit) ≤ℤ z }
+        requires z_high { z ≤ℤ pos row_limit }
+        requires n_low { neg_ℤ (pos row_limit) ≤ℤ n }
+        requires n_high { n ≤ℤ pos row_limit }
         ensures { result ≡ next_from m z n }
     {
         n + Congruence::reduce(m, z - n)
@@ -100,11 +108,11 @@ impl Congruence {
 
     /// The greatest number up to `n` with the residue of `z`.
     pub(crate) fn next_to(m: u64, z: i64, n: i64) -> i64
-        requires small { m < 2 ^ 40 }
-        requires z_low { neg_ℤ (pos (2 ^ 40)) ≤ℤ z }
-        requires z_high { z ≤ℤ pos (2 ^ 40) }
-        requires n_low { neg_ℤ (pos (2 ^ 40)) ≤ℤ n }
-        requires n_high { n ≤ℤ pos (2 ^ 40) }
+        requires small { m < row_limit }
+        requires z_low { neg_ℤ (pos row_limit) ≤ℤ z }
+        requires z_high { z ≤ℤ pos row_limit }
+        requires n_low { neg_ℤ (pos row_limit) ≤ℤ n }
+        requires n_high { n ≤ℤ pos row_limit }
         ensures { result ≡ next_to m z n }
     {
         n - Congruence::reduce(m, n - z)
@@ -113,19 +121,19 @@ impl Congruence {
     /// The congruence of `z` at any modulus. At one that is too great, the single value of its one
     /// member that a word can hold, or None.
     pub(crate) fn make(m: u64, z: i64) -> Option<Congruence>
-        requires small { m < 2 ^ 40 }
-        requires z_low { neg_ℤ (pos (2 ^ 40)) ≤ℤ z }
-        requires z_high { z ≤ℤ pos (2 ^ 40) }
+        requires small { m < row_limit }
+        requires z_low { neg_ℤ (pos row_limit) ≤ℤ z }
+        requires z_high { z ≤ℤ pos row_limit }
         ensures { result ≡ make m z }
     {
-        if 0 < m && m <= 4_294_967_295 {
+        if 0 < m && m <= GREATEST_MODULUS {
             Some(Congruence {
                 modulus: m as i64,
                 residue: Congruence::reduce(m, z),
             })
         } else {
-            let only = Congruence::next_from(m, z, LOW);
-            if LOW <= only && only <= HIGH {
+            let only = Congruence::next_from(m, z, LEAST_SIGNED);
+            if LEAST_SIGNED <= only && only <= GREATEST_SIGNED {
                 Some(Congruence {
                     modulus: 0,
                     residue: only,
@@ -179,6 +187,6 @@ impl Congruence {
         ensures { result ≡ all_on self.now modulus residue }
     {
         let size = modulus.unsigned_abs();
-        (self.divisor() % size == 0) & (self.residue.abs_diff(residue) % size == 0)
+        self.divisor() % size == 0 && self.residue.abs_diff(residue) % size == 0
     }
 }

@@ -6,7 +6,7 @@ use Rattle.std.proofs.Math.Path.{ap₂}
 use Rattle.std.proofs.Common.{refl, sym, ap, subst, arith, ⊎_elim, ◌∙◌}
 use Rattle.std.proofs.lemmas.Int.{ints, clamps}
 use Rattle.std.proofs.lemmas.Bool.{and_parts, and_cases, false≢true, cond_both}
-use Rattle.viper_word.specs.Words.{IsSigned, least_signed, greatest_signed, is_signed}
+use Rattle.viper_word.specs.Words.{IsSigned, is_signed}
 use Rattle.num_domain.specs.Options.{or_else}
 use Rattle.num_domain.specs.Exact.{exact1, exact2}
 use Rattle.num_domain.specs.ExactLaws.{exact1_single, exact1_row, exact2_single, exact2_first, exact2_second}
@@ -15,7 +15,7 @@ use Rattle.viper_word.specs.declared.kind.Kind.{Kind}
 use Rattle.viper_word.specs.declared.kind.Kind.TheVariants.{Lt, Gt, Ult}
 use Rattle.interval_dom.specs.Intervals.{cut, top, fits, single, constant, hull, without, left_row, least_bit, greatest_bit, power_above, negative_to, natural_to, refine, intervals}
 use Rattle.interval_dom.specs.IntervalRows.{power_small}
-use Rattle.interval_dom.specs.IntervalOrder.{cut_is, same_ends, single_from, not_single}
+use Rattle.interval_dom.specs.IntervalOrder.{cut_is, single_from, not_single}
 use Rattle.interval_dom.specs.declared.interval.Interval.{Interval}
 
 pub span_is : (r : Interval) (lo hi : ℤ) → r.lo ≡ lo → r.hi ≡ hi → r ≡ or_else (cut lo hi) top
@@ -59,11 +59,10 @@ left_then a b s t lo hi e f g p q =
     let h : (is_signed (a.lo +ℤ a.lo) && is_signed (a.hi +ℤ a.hi +ℤ pos 1)) ≡ true = sym (ap₂ (λ (x y : Bool). x && y) e f) ∙ g in
     cond_both (is_signed (a.lo +ℤ a.lo) && is_signed (a.hi +ℤ a.hi +ℤ pos 1)) (cut (a.lo +ℤ a.lo +ℤ least_bit b) (a.hi +ℤ a.hi +ℤ greatest_bit b)) (Some top) (λ o. cut lo hi ≡ o) (λ _. ap₂ cut p q) (λ i. absurd (false≢true (sym i ∙ h)))
 
-pub left_else : (a : Interval) (b : Option Bool) (s t : Bool) (r : Interval) → s ≡ is_signed (a.lo +ℤ a.lo) → t ≡ is_signed (a.hi +ℤ a.hi +ℤ pos 1) → (s && t) ≡ false → r.lo ≡ least_signed → r.hi ≡ greatest_signed → Some r ≡ left_row a b
+pub left_else : (a : Interval) (b : Option Bool) (r : Interval) → (is_signed (a.lo +ℤ a.lo) && is_signed (a.hi +ℤ a.hi +ℤ pos 1)) ≡ false → r ≡ top → Some r ≡ left_row a b
 unfolding left_row
-left_else a b s t r e f g p q =
-    let h : (is_signed (a.lo +ℤ a.lo) && is_signed (a.hi +ℤ a.hi +ℤ pos 1)) ≡ false = sym (ap₂ (λ (x y : Bool). x && y) e f) ∙ g in
-    cond_both (is_signed (a.lo +ℤ a.lo) && is_signed (a.hi +ℤ a.hi +ℤ pos 1)) (cut (a.lo +ℤ a.lo +ℤ least_bit b) (a.hi +ℤ a.hi +ℤ greatest_bit b)) (Some top) (λ o. Some r ≡ o) (λ i. absurd (false≢true (sym h ∙ i))) (λ _. ap (λ (x : Interval). Some x) (same_ends r top p q))
+left_else a b r h p =
+    cond_both (is_signed (a.lo +ℤ a.lo) && is_signed (a.hi +ℤ a.hi +ℤ pos 1)) (cut (a.lo +ℤ a.lo +ℤ least_bit b) (a.hi +ℤ a.hi +ℤ greatest_bit b)) (Some top) (λ o. Some r ≡ o) (λ i. absurd (false≢true (sym h ∙ i))) (λ _. ap (λ (x : Interval). Some x) p)
 
 pub after_is : (r x y e n : ℤ) → r ≡ cond (int_eq x y) (x +ℤ pos 1) x → x ≡ e → y ≡ n → r ≡ cond (int_eq e n) (e +ℤ pos 1) e
 after_is r x y e n h p q = h ∙ ap₂ (λ (u v : ℤ). cond (int_eq u v) (u +ℤ pos 1) u) p q

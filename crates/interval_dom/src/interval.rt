@@ -2,13 +2,7 @@ ghost use Rattle.std.specs.Prelude.{◌≡◌, IfSome};
 ghost use Rattle.interval_dom.specs.Bounds.{AreEnds};
 
 use num_domain::{NumDomain, Thresholds, signed};
-use viper_word::Kind;
-
-/// The least signed value of a word.
-pub(crate) const LOW: i64 = -2_147_483_648;
-
-/// The greatest signed value of a word.
-pub(crate) const HIGH: i64 = 2_147_483_647;
+use viper_word::{GREATEST_SIGNED, Kind, LEAST_SIGNED};
 
 /// All numbers from `lo` to `hi`. Both are signed values of words, and `lo` is at most `hi`.
 #[derive(Clone, Copy, Debug, PartialEq, Eq)]
@@ -30,7 +24,10 @@ impl NumDomain for Interval {
     }
 
     fn top() -> Interval {
-        Interval { lo: LOW, hi: HIGH }
+        Interval {
+            lo: LEAST_SIGNED,
+            hi: GREATEST_SIGNED,
+        }
     }
 
     fn span(lo: i64, hi: i64, _modulus: i64) -> Interval {

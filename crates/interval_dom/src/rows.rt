@@ -3,16 +3,16 @@ ghost use Rattle.std.specs.Ordering.{int_eq};
 ghost use Rattle.viper_word.specs.Words.{IsSigned};
 ghost use Rattle.interval_dom.specs.Intervals.{fits, hull, least_bit, greatest_bit};
 
-use crate::interval::{HIGH, Interval, LOW};
-use num_domain::signed;
-use viper_word::Kind;
+use crate::interval::Interval;
+use num_domain::{NumDomain, signed};
+use viper_word::{GREATEST_SIGNED, Kind, LEAST_SIGNED};
 
 /// Whether a word can hold the number.
 #[tactic(auto, unfolding(crate::specs::Intervals::fits))]
 fn fits(n: i64) -> bool
     ensures { result ≡ fits n }
 {
-    LOW <= n && n <= HIGH
+    LEAST_SIGNED <= n && n <= GREATEST_SIGNED
 }
 
 impl Interval {
@@ -24,8 +24,8 @@ impl Interval {
     pub(crate) fn cut(lo: i64, hi: i64) -> Option<Interval>
         ensures { result ≡ cut lo hi }
     {
-        let lo = lo.max(LOW);
-        let hi = hi.min(HIGH);
+        let lo = lo.max(LEAST_SIGNED);
+        let hi = hi.min(GREATEST_SIGNED);
         if lo <= hi {
             Some(Interval { lo, hi })
         } else {
@@ -38,10 +38,10 @@ impl Interval {
     pub(crate) fn unwrapped(lo: i64, hi: i64) -> Option<Interval>
         ensures { result ≡ unwrapped lo hi }
     {
-        if fits(lo) & fits(hi) {
+        if fits(lo) && fits(hi) {
             Interval::cut(lo, hi)
         } else {
-            Some(Interval { lo: LOW, hi: HIGH })
+            Some(Interval::top())
         }
     }
 
@@ -64,7 +64,7 @@ impl Interval {
     pub(crate) fn are_single(&self, other: &Interval) -> bool
         ensures { result ≡ (int_le self.now.hi self.now.lo && int_le other.now.hi other.now.lo) }
     {
-        self.is_single() & other.is_single()
+        self.is_single() && other.is_single()
     }
 
     /// Whether it has no negative member.
@@ -98,7 +98,7 @@ impl Interval {
         } else if other.is_natural() {
             Interval::cut(0, other.hi)
         } else {
-            Some(Interval { lo: LOW, hi: HIGH })
+            Some(Interval::top())
         }
     }
 
@@ -118,10 +118,10 @@ impl Interval {
     pub(crate) fn xor_row(&self, other: &Interval) -> Option<Interval>
         ensures { result ≡ xor_row self.now other.now }
     {
-        if self.is_natural() & other.is_natural() {
+        if self.is_natural() && other.is_natural() {
             Interval::cut(0, self.power_above(other) - 1)
         } else {
-            Some(Interval { lo: LOW, hi: HIGH })
+            Some(Interval::top())
         }
     }
 
@@ -130,10 +130,10 @@ impl Interval {
     pub(crate) fn nor_row(&self, other: &Interval) -> Option<Interval>
         ensures { result ≡ nor_row self.now other.now }
     {
-        if self.is_natural() & other.is_natural() {
+        if self.is_natural() && other.is_natural() {
             Interval::cut(-self.power_above(other), -1)
         } else {
-            Some(Interval { lo: LOW, hi: HIGH })
+            Some(Interval::top())
         }
     }
 
@@ -145,7 +145,7 @@ impl Interval {
         if self.is_natural() {
             Interval::cut(0, self.hi)
         } else {
-            Some(Interval { lo: LOW, hi: HIGH })
+            Some(Interval::top())
         }
     }
 
@@ -155,13 +155,13 @@ impl Interval {
         ensures { result ≡ right_row self.now b }
     {
         match b {
-            None => Some(Interval { lo: LOW, hi: HIGH }),
-            Some(true) => Interval::cut(LOW, -1),
+            None => Some(Interval::top()),
+            Some(true) => Interval::cut(LEAST_SIGNED, -1),
             Some(false) => {
                 if self.is_natural() {
                     Interval::cut(signed::half(self.lo), signed::half(self.hi))
                 } else {
-                    Interval::cut(0, HIGH)
+                    Interval::cut(0, GREATEST_SIGNED)
                 }
             }
         }
@@ -174,10 +174,10 @@ impl Interval {
     {
         let low = self.lo + self.lo;
         let high = self.hi + self.hi;
-        if fits(low) & fits(high + 1) {
+        if fits(low) && fits(high + 1) {
             Interval::cut(low + least_bit(b), high + greatest_bit(b))
         } else {
-            Some(Interval { lo: LOW, hi: HIGH })
+            Some(Interval::top())
         }
     }
 
@@ -226,7 +226,7 @@ impl Interval {
         if self.lo < 0 {
             self.hi.min(-1) - 1
         } else {
-            LOW - 1
+            LEAST_SIGNED - 1
         }
     }
 
@@ -234,14 +234,18 @@ impl Interval {
     fn natural_to(&self) -> i64
         ensures value { result ≡ natural_to self.now }
     {
-        if self.lo < 0 { HIGH } else { self.hi - 1 }
+        if self.lo < 0 {
+            GREATEST_SIGNED
+        } else {
+            self.hi - 1
+        }
     }
 
     /// The least negative number that isn't below every member, as unsigned numbers.
     fn negative_from(&self) -> i64
         ensures value { result ≡ negative_from self.now }
     {
-        if 0 <= self.hi { LOW } else { self.lo }
+        if 0 <= self.hi { LEAST_SIGNED } else { self.lo }
     }
 
     /// The least other number that isn't.
@@ -251,7 +255,7 @@ impl Interval {
         if 0 <= self.hi {
             self.lo.max(0)
         } else {
-            HIGH + 1
+            GREATEST_SIGNED + 1
         }
     }
 
@@ -262,7 +266,7 @@ impl Interval {
         ensures { result ≡ all_on self.now modulus residue }
     {
         let distance = self.lo.abs_diff(residue);
-        (modulus == 1) | (self.is_single() & (distance % modulus.unsigned_abs() == 0))
+        modulus == 1 || (self.is_single() && distance % modulus.unsigned_abs() == 0)
     }
 }
 

@@ -1,13 +1,7 @@
 ghost use Rattle.std.specs.Prelude.{◌≡◌};
 
 use crate::{NumDomain, Thresholds};
-use viper_word::Kind;
-
-/// The least signed value of a word.
-const LOW: i64 = -2_147_483_648;
-
-/// The greatest signed value of a word.
-const HIGH: i64 = 2_147_483_647;
+use viper_word::{GREATEST_SIGNED, Kind, LEAST_SIGNED};
 
 /// Two domains at once: a number is a member where it is a member of both factors. Each function
 /// works on each factor, and what this gives is then sealed: both factors are narrowed to the
@@ -28,8 +22,8 @@ impl<L: NumDomain, R: NumDomain> Pair<L, R> {
     pub fn sealed(&self) -> Option<Self>
         ensures { result ≡ seal L.domain R.domain self.now }
     {
-        let from = self.least_from(LOW)?;
-        let to = self.greatest_to(HIGH)?;
+        let from = self.least_from(LEAST_SIGNED)?;
+        let to = self.greatest_to(GREATEST_SIGNED)?;
         if from <= to {
             Some(Pair {
                 left: self.left.narrow(from, to)?,

@@ -6,13 +6,7 @@ ghost use Rattle.num_domain.specs.Rounding.{with_ends, below, above, IsThreshold
 
 use std::alloc::{AllocError, Global};
 use std::marker::Model;
-use viper_word::Memory;
-
-/// The least signed value of a word.
-const LOW: i64 = -2_147_483_648;
-
-/// The greatest signed value of a word.
-const HIGH: i64 = 2_147_483_647;
+use viper_word::{GREATEST_SIGNED, LEAST_SIGNED, Memory};
 
 /// Numbers to round to, in ascending order. Both ends of the signed values are among them.
 #[derive(Drop)]
@@ -107,12 +101,12 @@ fn gathered(alloc: Global, numbers: &[i64]) -> Result<Vec<i64>, AllocError>
 {
     let mut kept = Vec::new(alloc);
     for n in numbers {
-        if LOW <= *n && *n <= HIGH {
+        if LEAST_SIGNED <= *n && *n <= GREATEST_SIGNED {
             kept.push(*n)?;
         }
     }
-    kept.push(LOW)?;
-    kept.push(HIGH)?;
+    kept.push(LEAST_SIGNED)?;
+    kept.push(GREATEST_SIGNED)?;
     Ok(kept)
 }
 
@@ -129,10 +123,10 @@ mod tests {
             .ok_or("no memory")?;
         assert_eq!(rt; thresholds.below(7), 7);
         assert_eq!(rt; thresholds.below(6), -3);
-        assert_eq!(rt; thresholds.below(-4), LOW);
+        assert_eq!(rt; thresholds.below(-4), LEAST_SIGNED);
         assert_eq!(rt; thresholds.above(-3), -3);
         assert_eq!(rt; thresholds.above(-2), 7);
-        assert_eq!(rt; thresholds.above(8), HIGH);
+        assert_eq!(rt; thresholds.above(8), GREATEST_SIGNED);
         Ok(())
     }
 }
