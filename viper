@@ -12,7 +12,7 @@ is_due() {
 }
 
 if is_due; then
-    echo "viper: building, which proves every crate; see README.md for how long that takes" >&2
+    echo "viper: building, which proves each crate that the program stands on; see README.md for how long that takes" >&2
     work=$(mktemp -d) || exit 1
     touch "$work/begun"
     if ! (cd "$crates/viper_cli" && rt run -- check data/image data/plan data/cert) >"$work/log" 2>&1; then
