@@ -3,7 +3,8 @@ use Rattle.std.proofs.Common.{◌≡◌, ◌≢◌, ℕ, zero, suc, List, [], �
 use Rattle.std.proofs.lemmas.List.{append-nil}
 use Rattle.viper_io.specs.Causes.{Failure, GrewBy}
 use Rattle.viper_io.specs.declared.fault.Call.TheVariants.{Fetch}
-use Rattle.viper_top.specs.Answers.{Grew, FetchFailed}
+use Rattle.viper_top.specs.AnswerStages.{Grew}
+use Rattle.viper_top.specs.Answers.{FetchFailed}
 
 pub grew_by : (e : Failure) (xs ys : List Failure) → GrewBy e xs ys → Grew xs ys
 grew_by e xs ys g = record { more = replicate g.count e; is = g.is }

@@ -9,7 +9,8 @@ use Rattle.viper_top.specs.declared.unread.Unread.{Unread}
 use Rattle.viper_top.specs.declared.unread.Unread.TheVariants.{Long, Unbuilt}
 use Rattle.viper_top.specs.Certificates.{IsCertificate}
 use Rattle.viper_top.specs.CommandLine.{Names}
-use Rattle.viper_top.specs.Answers.{Said, plan_answer, answer_of, IsContent, IsReadAs, CertAnswered, PlanAnswered, Answered, image_limit, plan_limit, cert_limit}
+use Rattle.viper_top.specs.AnswerStages.{CertAnswered, PlanAnswered}
+use Rattle.viper_top.specs.Answers.{Said, plan_answer, answer_of, IsContent, IsReadAs, Answered, image_limit, plan_limit, cert_limit}
 
 -- bytes that are no value's
 pub unbuilt_read : {V : Type 0} (IsOf : List ℕ → V → Type 0) (tells : Bool) (limit : ℕ) (content : Option (List ℕ)) (before now : ℕ) (bytes : List ℕ)

@@ -91,21 +91,7 @@ pub record IsReadAs {V : Type 0} (IsOf : List ℕ → V → Type 0) (tells : Boo
   pub long : bytes ≡ None → Rose before now
   pub is : Reads IsOf bytes read
 
--- the answer is that for what the certificate is read as, over the plan
-pub record CertAnswered (plan : PlanLines) (tells : Bool) (holds : List ℕ → Option (List ℕ)) (names : Names) (before now : ℕ) (a : Said) : Type 0 where
-  pub cert : Result Certificate Unread
-  pub cert_read : IsReadAs IsCertificate tells cert_limit (holds names.cert) before now cert
-  pub is : a ≡ cert_answer plan cert
-
--- the same of the plan, over the image; the certificate is looked at only where the plan was read
-pub record PlanAnswered (image : List (ℕ × ℕ)) (tells : Bool) (holds : List ℕ → Option (List ℕ)) (names : Names) (before now : ℕ) (a : Said) : Type 0 where
-  pub plan : Result PlanLines Unread
-  pub cert : Result Certificate Unread
-  pub plan_read : IsReadAs (IsFirstPlan image) tells plan_limit (holds names.plan) before now plan
-  pub cert_read : (lines : PlanLines) → plan ≡ Ok lines → IsReadAs IsCertificate tells cert_limit (holds names.cert) before now cert
-  pub is : a ≡ plan_answer plan cert
-
--- the same of the image
+-- the answer is that for what the three contents are read as; each is looked at only where those before it were read
 pub record Answered (tells : Bool) (holds : List ℕ → Option (List ℕ)) (names : Names) (before now : ℕ) (a : Said) : Type 0 where
   pub image : Result (List (ℕ × ℕ)) Unread
   pub plan : Result PlanLines Unread
@@ -117,12 +103,7 @@ pub record Answered (tells : Bool) (holds : List ℕ → Option (List ℕ)) (nam
 
 -- ---- failures outside
 
--- the list grew
-pub record Grew (before now : List Failure) : Type 0 where
-  pub more : List Failure
-  pub is : now ≡ before ++ more
-
--- it grew by a fetch of one of these names, and maybe by more
+-- the list grew by a fetch of one of these names, and maybe by more
 pub record FetchFailed (names : List (List ℕ)) (before now : List Failure) : Type 0 where
   pub more : List Failure
   pub is : now ≡ before ++ more

@@ -8,4 +8,5 @@ pub mod Claims
 pub mod Texts
 pub mod CommandLine
 pub mod Answers
+pub mod AnswerStages
 pub mod Headline

@@ -6,7 +6,8 @@ ghost use Rattle.viper_top.specs.declared.answers.Stop.TheVariants as stops;
 ghost use Rattle.viper_top.specs.Certificates.{cert_view, IsCertificate};
 ghost use Rattle.viper_top.specs.Verdicts.{verdict_of, verdict_view};
 ghost use Rattle.viper_top.specs.CommandLine.{Names, list_of, row_names};
-ghost use Rattle.viper_top.specs.Answers.{Said, say, answer_view, verdict_answer, cert_answer, plan_answer, answer_of, image_limit, plan_limit, cert_limit, IsContent, IsReadAs, CertAnswered, PlanAnswered, Answered, Grew, FetchFailed, EndsAnswered};
+ghost use Rattle.viper_top.specs.Answers.{Said, say, answer_view, verdict_answer, cert_answer, plan_answer, answer_of, image_limit, plan_limit, cert_limit, IsContent, IsReadAs, Answered, FetchFailed, EndsAnswered};
+ghost use Rattle.viper_top.specs.AnswerStages.{CertAnswered, PlanAnswered, Grew};
 ghost use Rattle.viper_top.specs.Seen.{seen};
 
 use crate::cert_checker::{Verdict, check};
