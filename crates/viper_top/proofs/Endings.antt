@@ -153,6 +153,18 @@ row_not_failed : (row : Option Names) (before now : List Failure) → now ≡ be
 row_not_failed None before now same f = f
 row_not_failed (Some names) before now same f = not_failed (list_of names) before now same f
 
+-- where there is no row and the put didn't fail the status is Usage
+pub usage_by : (tells : Bool) (holds : List ℕ → Option (List ℕ)) (row : Option Names) (b n : ℕ) (ends : Status) (before now : Option (List ℕ)) (failures failed : List Failure) (faults faulted : ℕ)
+    → (EndsAnswered ends → AnswersRow tells holds row b n ends before now) → (ends ≡ Outside → RowFailed row failures failed ⊎ Rose faults faulted)
+    → row ≡ None → (Rose faults faulted → ⊥) → ends ≢ Memory → ends ≡ Usage
+usage_by tells holds (Some names) b n ends before now failures failed faults faulted answered outside none kept memory = absurd (none-some names (sym none))
+usage_by tells holds None b n Done before now failures failed faults faulted answered outside none kept memory = absurd (answered tt)
+usage_by tells holds None b n Refused before now failures failed faults faulted answered outside none kept memory = absurd (answered tt)
+usage_by tells holds None b n Input before now failures failed faults faulted answered outside none kept memory = absurd (answered tt)
+usage_by tells holds None b n Usage before now failures failed faults faulted answered outside none kept memory = refl
+usage_by tells holds None b n Outside before now failures failed faults faulted answered outside none kept memory = absurd (elim (outside refl) [ inl f ↦ f | inr rose ↦ kept rose ])
+usage_by tells holds None b n Memory before now failures failed faults faulted answered outside none kept memory = absurd (memory refl)
+
 -- where nothing failed the status is one of the three that an answer has
 pub ends_by : (row : Option Names) (ends : Status) (failures failed : List Failure) (faults faulted : ℕ) → (ends ≡ Usage → row ≡ None) → (ends ≡ Outside → RowFailed row failures failed ⊎ Rose faults faulted)
     → row ≢ None → failed ≡ failures → (Rose faults faulted → ⊥) → ends ≢ Memory → EndsAnswered ends

@@ -113,6 +113,9 @@ pub fn viper_main<S: Store, K: Sink>(
     // Usage: no row has these words.
     ensures usage { result ≡ Status.Usage → (names_in words.now ≡ None)
         × Wrote (K.put_so_far out.old) (codes "usage\n") (K.put_so_far out.new) }
+    // And where no row has them and the put doesn't fail, it is Usage or want of memory.
+    ensures usage_where { names_in words.now ≡ None → (Rose (K.faults out.old) (K.faults out.new) → ⊥)
+        → result ≢ Status.Memory → result ≡ Status.Usage }
     // Outside: a fetch of one of the row's names failed, or the put.
     ensures outside { result ≡ Status.Outside
         → RowFailed (names_in words.now) (S.failures store.old) (S.failures store.new)
@@ -152,6 +155,7 @@ pub fn sure_main(alloc: Global, words: &[&str], store: &mut SureShelf, out: &mut
         store.old.longs store.new.longs result (Some out.old) (Some out.new) }
     ensures usage { result ≡ Status.Usage → (names_in words.now ≡ None)
         × Wrote (Some out.old) (codes "usage\n") (Some out.new) }
+    ensures usage_where { names_in words.now ≡ None → result ≢ Status.Memory → result ≡ Status.Usage }
     ensures memory { result ≡ Status.Memory → out.new ≡ out.old }
     ensures ends { names_in words.now ≢ None → result ≢ Status.Memory → EndsAnswered result }
     ensures same { SameContents sure_holds store.old store.new }
