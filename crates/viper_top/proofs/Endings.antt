@@ -20,6 +20,7 @@ use Rattle.viper_top.specs.CommandLine.{Names, list_of}
 use Rattle.viper_top.specs.Answers.{Said, verdict_answer, cert_answer, plan_answer, answer_of, IsContent, Reads, Answered, Answers, AnswersRow, EndsAnswered, FetchFailed, RowFailed, image_limit, plan_limit, cert_limit}
 use Rattle.viper_top.specs.Headline.{Declined, DeclinedRow, MayHave, LeftFront, AreGiven, IsSaid}
 use Rattle.viper_top.proofs.Done.{found}
+use Rattle.viper_top.proofs.FirstFailure.{fails_first}
 use Rattle.viper_top.proofs.Yes.{local_yes, yes_local}
 use Rattle.viper_top.proofs.Unique.{image_unique, image_few, plan_unique, cert_unique}
 
@@ -70,7 +71,7 @@ pub verdict_exact : (plan : PlanLines) (c : Certificate) → IsExact plan c
 verdict_exact plan c = record {
   yes = local_yes plan c;
   only_where = λ bounds h. (yes_local plan c bounds h).0;
-  first = refusal_first plan c;
+  first = λ refusal h. fails_first plan c refusal (refusal_first plan c refusal h);
   not_where = refusal_fails plan c;
 }
 
@@ -98,7 +99,7 @@ answers_refused tells holds names b n before now a =
         cert_is = cert.is;
       };
       refusal = y.refusal;
-      first = refusal_first y.lines y.certificate y.refusal y.verdict;
+      first = fails_first y.lines y.certificate y.refusal (refusal_first y.lines y.certificate y.refusal y.verdict);
       fails = refusal_fails y.lines y.certificate y.refusal y.verdict;
       put = rw (ap (λ (x : Said). x.text) an.is ∙ y.text_is) at a.put;
     }

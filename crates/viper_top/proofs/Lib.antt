@@ -8,6 +8,7 @@ pub mod Nodes
 pub mod Steps
 pub mod WholeRuns
 pub mod Yes
+pub mod FirstFailure
 pub mod Done
 pub mod Unique
 pub mod Endings

@@ -16,7 +16,7 @@ use Rattle.viper_top.specs.Verdicts.{Refusal, first_start, first_node, refused_a
 
 -- ---- no start fails
 
-no_start : (c : Certificate) (k : ℕ) (ss : List Start) → first_start c k ss ≡ None → AllByRecursion (λ s. is_start_covered c s ≡ true) ss
+pub no_start : (c : Certificate) (k : ℕ) (ss : List Start) → first_start c k ss ≡ None → AllByRecursion (λ s. is_start_covered c s ≡ true) ss
 no_start c k [] h = tt
 no_start c k (s ∷ ss) h = elim (chosen (is_start_covered c s) (first_start c (k + 1) ss) (Some (record { place = place.Start k; address = s.at; cond = H2 })) None h) [
   | inl yes_ ↦ (yes_.0, no_start c (k + 1) ss yes_.1)

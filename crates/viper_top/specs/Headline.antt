@@ -7,8 +7,8 @@ use Rattle.memory_plan.specs.FirstForms.{IsFirstImage, IsFirstPlan}
 use Rattle.viper_top.specs.declared.top.Status.{Status}
 use Rattle.viper_top.specs.Certificates.{Certificate, IsCertificate}
 use Rattle.viper_top.specs.Conditions.{Local}
-use Rattle.viper_top.specs.Verdicts.{Refusal, first_failure, bounds_of}
-use Rattle.viper_top.specs.Claims.{Holds}
+use Rattle.viper_top.specs.Verdicts.{Refusal, bounds_of}
+use Rattle.viper_top.specs.Claims.{Holds, FailsFirst}
 use Rattle.viper_top.specs.Texts.{yes_text, no_text}
 use Rattle.viper_top.specs.CommandLine.{Names}
 use Rattle.viper_top.specs.Answers.{Said, Answered, image_limit, plan_limit, cert_limit}
@@ -43,14 +43,14 @@ abbrev pub Headline : Bool → (List ℕ → Option (List ℕ)) → Option Names
 Headline tells holds None before now = ⊥
 Headline tells holds (Some names) before now = Verified tells holds names before now
 
--- Refused: not all local conditions hold of what was read; this is the first failure, and its text was put.
+-- Refused: not all local conditions hold of what was read; this fails first, and its text was put.
 pub record Declined (tells : Bool) (holds : List ℕ → Option (List ℕ)) (names : Names) (before now : Option (List ℕ)) : Type 0 where
   pub image : List (ℕ × ℕ)
   pub plan : PlanLines
   pub cert : Certificate
   pub read : AreRead tells holds names image plan cert
   pub refusal : Refusal
-  pub first : first_failure plan cert ≡ Some refusal
+  pub first : FailsFirst plan cert refusal
   pub fails : Local plan cert → ⊥
   pub put : Wrote before (no_text refusal) now
 

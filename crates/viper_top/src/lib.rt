@@ -16,4 +16,7 @@ mod texts;
 mod top;
 mod unread;
 
-pub use top::{Status, local_conditions_suffice, sure_main, viper_main, yes_exactly_where_local};
+pub use top::{
+    Status, local_conditions_suffice, spellings_are_unique, sure_main, viper_main,
+    yes_exactly_where_local,
+};

@@ -6,7 +6,7 @@ ghost use Rattle.viper_top.specs.Answers.{status_number, Said, answer_view, verd
 ghost use Rattle.memory_plan.specs.Plans.{PlanLines};
 ghost use Rattle.viper_top.specs.Certificates.{Certificate};
 ghost use Rattle.viper_top.specs.Verdicts.{verdict_of};
-ghost use Rattle.viper_top.specs.Claims.{LocalSuffices, YesExactlyWhereLocal};
+ghost use Rattle.viper_top.specs.Claims.{LocalSuffices, UniqueSpellings, YesExactlyWhereLocal};
 ghost use Rattle.viper_top.specs.Headline.{Headline, DeclinedRow, LeftFront, AreGiven, IsSaid};
 
 use crate::answers::{Stop, answer_row};
@@ -168,6 +168,12 @@ pub fn sure_main(alloc: Global, words: &[&str], store: &mut SureShelf, out: &mut
 /// its bound says (docs/METHOD.md, "Conditions").
 pub fn local_conditions_suffice()
     ensures { LocalSuffices }
+{}
+
+/// A text spells one value: an image's text one image, a plan's one plan over its image, and the bytes of
+/// a certificate one certificate (docs/FORMATS.md).
+pub fn spellings_are_unique()
+    ensures { UniqueSpellings }
 {}
 
 /// A yes, with the greatest rank at each marker, comes exactly where all local conditions hold, and else a
