@@ -31,15 +31,15 @@ const ANY: Ends = (i32::MIN, i32::MAX);
 
 /// A node at which X and Y may be any.
 #[derive(Clone, Copy)]
-struct Row {
+struct Row<'a> {
     at: u32,
     a: Ends,
-    successors: &'static [u32],
+    successors: &'a [u32],
     rank: i64,
 }
 
 /// The node of the program of one instruction.
-const ONCE: Row = Row {
+const ONCE: Row<'static> = Row {
     at: 0,
     a: ANY,
     successors: &[0],
@@ -47,14 +47,14 @@ const ONCE: Row = Row {
 };
 
 /// The nodes of the program of two.
-const FIRST: Row = Row {
+const FIRST: Row<'static> = Row {
     at: 0,
     a: ANY,
     successors: &[1],
     rank: 2,
 };
 
-const SECOND: Row = Row {
+const SECOND: Row<'static> = Row {
     at: 1,
     a: (5, 5),
     successors: &[0],
@@ -268,6 +268,83 @@ fn check_says_yes_or_the_first_condition_that_fails(rt: HostRuntime) -> Result<(
         );
         assert_eq!(rt; page.bytes(), text.as_bytes(), "{text}");
     }
+    Ok(())
+}
+
+/// How many words an image may have.
+const WORDS: u32 = 256;
+
+/// An image of so many words: each puts its own address into A, and the last jumps to the first.
+fn count_up(alloc: Global, words: u32) -> Result<String, Fail> {
+    let mut image = String::new(alloc);
+    for at in 0..words {
+        let code = if at + 1 < words {
+            0x0030_0000 | at
+        } else {
+            0x0630_0000
+        };
+        image.push_str(&format!(in alloc; "{at:05X} {code:08X}\n")?)?;
+    }
+    Ok(image)
+}
+
+#[test]
+fn check_takes_as_much_as_the_forms_allow(rt: HostRuntime) -> Result<(), Fail> {
+    let alloc = rt.alloc();
+    let plan = "code 00000 000FF\nmarker 00000\nstart 00000 any any any any\n";
+    // The successor of each node; node 0 lists some of those behind it too.
+    let mut numbers = Vec::new(alloc);
+    for number in 1..WORDS {
+        numbers.push(number)?;
+    }
+    numbers.push(0)?;
+    let starts = [0; 255];
+    // Words, successors of node 0, and the answer.
+    let cases = [
+        (WORDS, 65, Status::Done, "yes\nmarker 00000 within 256\n"),
+        (WORDS, 66, Status::Input, "unbuilt cert\n"),
+        (WORDS + 1, 65, Status::Input, "unbuilt image\n"),
+    ];
+    for (words, listed, status, text) in cases {
+        let mut nodes = Vec::new(alloc);
+        for at in 0..WORDS {
+            let from = at as usize;
+            let (a, until) = match i32::try_from(at)? {
+                0 => (ANY, listed),
+                at => ((at - 1, at - 1), from + 1),
+            };
+            nodes.push(Row {
+                at,
+                a,
+                successors: numbers.get(from..until).unwrap_or(&[]),
+                rank: i64::from(WORDS - at),
+            })?;
+        }
+        let image = count_up(alloc, words)?;
+        let cert = certificate(alloc, &starts, &nodes)?;
+        let mut shelf = shelf_of(alloc, &image, plan, &cert)?;
+        let mut page = Page::new(alloc);
+        assert_eq!(rt;
+            viper_main(alloc, &CHECK, &mut shelf, &mut page),
+            status,
+            "{text}"
+        );
+        assert_eq!(rt; page.bytes(), text.as_bytes(), "{text}");
+    }
+    Ok(())
+}
+
+#[test]
+fn the_first_content_that_is_unbuilt_ends_it(rt: HostRuntime) -> Result<(), Fail> {
+    let alloc = rt.alloc();
+    let mut shelf = Shelf::new(alloc);
+    shelf.hold("image", b"no image")?;
+    let mut page = Page::new(alloc);
+    assert_eq!(rt;
+        viper_main(alloc, &CHECK, &mut shelf, &mut page),
+        Status::Input
+    );
+    assert_eq!(rt; page.bytes(), b"unbuilt image\n".as_slice());
     Ok(())
 }
 
