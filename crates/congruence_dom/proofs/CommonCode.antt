@@ -9,13 +9,15 @@ use Rattle.std.proofs.lemmas.Nat.{mod_below}
 use Rattle.std.proofs.lemmas.Int.{ints}
 use Rattle.viper_word.specs.Words.{least_signed, greatest_signed, IsSigned}
 use Rattle.num_domain.specs.Domain.{Has}
-use Rattle.num_domain.specs.Options.{bind}
+use Rattle.viper_word.specs.Options.{bind}
 use Rattle.congruence_dom.specs.Limits.{row_limit}
-use Rattle.congruence_dom.specs.Multiples.{Divides, Divides-sum, Divides-difference, Divides_is, small_multiple, rem_divides, rem_bounds}
-use Rattle.congruence_dom.specs.Congruences.{mod_of, least_from, next_common, through, refine_eq, congruences}
-use Rattle.congruence_dom.specs.CongruenceOrder.{has_parts, parts_has, least_is, least_first, only_member}
-use Rattle.congruence_dom.specs.CommonMembers.{AreCommon, IsNextCommon, next_common_is}
-use Rattle.congruence_dom.specs.Solutions.{IsSolution, spread_at, product_sum}
+use Rattle.viper_word.specs.Divisors.{Divides}
+use Rattle.viper_word.proofs.Multiples.{Divides-sum, Divides-difference, Divides_is, small_multiple, rem_divides, rem_bounds}
+use Rattle.congruence_dom.specs.Residues.{mod_of}
+use Rattle.congruence_dom.specs.Congruences.{least_from, next_common, through, refine_eq, congruences}
+use Rattle.congruence_dom.specs.evidence.CongruenceOrder.{has_parts, parts_has, least_is, least_first, only_member}
+use Rattle.congruence_dom.specs.evidence.CommonMembers.{AreCommon, IsNextCommon, next_common_is}
+use Rattle.congruence_dom.specs.evidence.Solutions.{IsSolution, spread_at, product_sum}
 use Rattle.congruence_dom.specs.declared.congruence.Congruence.{Congruence}
 
 -- ---- what the least member from n on says

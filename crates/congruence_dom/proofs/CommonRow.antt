@@ -4,12 +4,14 @@ use Rattle.std.proofs.Common.{refl, arith}
 use Rattle.std.proofs.lemmas.Int.{ints}
 use Rattle.viper_word.specs.Words.{least_signed}
 use Rattle.num_domain.specs.Domain.{Has, Below, BelowOption}
-use Rattle.num_domain.specs.OptionLemmas.{all_bind}
+use Rattle.viper_word.proofs.Options.{all_bind}
 use Rattle.congruence_dom.specs.Form.{IsForm}
-use Rattle.congruence_dom.specs.Multiples.{Divides, Divides-difference}
-use Rattle.congruence_dom.specs.Congruences.{mod_of, make, congruence_if, next_common, through, refine_eq, congruences}
-use Rattle.congruence_dom.specs.CongruenceOrder.{has_parts, make_below, make_zero_below, below_has}
-use Rattle.congruence_dom.specs.CommonMembers.{AreCommon, AreCommonMembers, next_is, refine_eq_sound, refine_eq_below}
+use Rattle.viper_word.specs.Divisors.{Divides}
+use Rattle.viper_word.proofs.Multiples.{Divides-difference}
+use Rattle.congruence_dom.specs.Residues.{mod_of}
+use Rattle.congruence_dom.specs.Congruences.{make, congruence_if, next_common, through, refine_eq, congruences}
+use Rattle.congruence_dom.specs.evidence.CongruenceOrder.{has_parts, make_below, make_zero_below, below_has}
+use Rattle.congruence_dom.specs.evidence.CommonMembers.{AreCommon, AreCommonMembers, next_is, refine_eq_sound, refine_eq_below}
 use Rattle.congruence_dom.specs.declared.congruence.Congruence.{Congruence}
 
 through_right : (a b : Congruence) (i : ℤ) (o : Option ℤ) → AreCommon a b i → IfSome o (λ r. AreCommon a b r × ((i +ℤ pos 1) ≤ℤ r)) → BelowOption congruences (through i o) (Some b)

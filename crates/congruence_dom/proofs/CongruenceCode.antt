@@ -4,20 +4,21 @@ use Rattle.std.proofs.Common.{refl, sym, ap, subst, arith, ⊎_elim, ◌∙◌}
 use Rattle.std.proofs.Math.Nat.{le_of_dvd, eq-zero_of_zero-dvd, mod-zero}
 use Rattle.std.proofs.lemmas.Int.{ints}
 use Rattle.std.proofs.lemmas.Bool.{cases_Bool, false≢true, eqb-true}
-use Rattle.viper_word.specs.Words.{least_signed, greatest_signed, IsSigned, is_signed}
+use Rattle.viper_word.specs.Words.{least_signed, IsSigned, is_signed}
 use Rattle.num_domain.specs.Domain.{Has}
-use Rattle.num_domain.specs.Options.{or_else}
-use Rattle.num_domain.specs.Ranges.{IsRange}
+use Rattle.std.specs.Prelude.{unwrap_or}
 use Rattle.num_domain.specs.Exact.{exact2}
-use Rattle.num_domain.specs.ExactLaws.{exact2_single}
+use Rattle.num_domain.specs.evidence.ExactLaws.{exact2_single}
 use Rattle.std.proofs.lemmas.Bool.{and_parts}
-use Rattle.std.proofs.Math.Nat.{dvd_of_mod-eq-zero}
-use Rattle.congruence_dom.specs.CongruenceLaws.{single_from}
-use Rattle.num_domain.specs.Tests.{is_signed_true, true_is_signed}
+use Rattle.congruence_dom.specs.evidence.CongruenceLaws.{single_from}
+use Rattle.viper_word.proofs.Integers.{true_is_signed}
 use Rattle.congruence_dom.specs.Form.{IsForm}
-use Rattle.congruence_dom.specs.Gcd.{gcd, gcd_left, gcd_right, gcd_greatest}
-use Rattle.congruence_dom.specs.Congruences.{mod_of, positive, reduce, reduce_zero, is_small, small_parts, small_from, congruence_if, make_when, make, next_from, reduced_form, dvd_zero_is, least_from, top, single, constant, congruences}
-use Rattle.congruence_dom.specs.CongruenceOrder.{same_from, has_parts, least_is}
+use Rattle.viper_word.specs.Divisors.{gcd}
+use Rattle.viper_word.proofs.Gcd.{gcd_left, gcd_right, gcd_greatest}
+use Rattle.congruence_dom.specs.Residues.{mod_of, reduce, is_small, next_from}
+use Rattle.congruence_dom.specs.evidence.Forms.{positive, reduce_zero, small_parts, small_from, reduced_form, dvd_zero_is}
+use Rattle.congruence_dom.specs.Congruences.{congruence_if, make_when, make, least_from, top, single, constant, congruences}
+use Rattle.congruence_dom.specs.evidence.CongruenceOrder.{same_from, has_parts, least_is}
 use Rattle.congruence_dom.specs.declared.congruence.Congruence.{Congruence}
 
 -- ---- for the code
@@ -88,9 +89,6 @@ includes_zero a b g e f =
 pub large_from : (m : ℕ) → (0 < m → m ≤ 2 ^ 32 - 1 → ⊥) → is_small m ≡ false
 large_from m h = ⊎_elim (λ (e : is_small m ≡ true). let p = small_parts m e in absurd (h p.0 p.1)) (λ (e : is_small m ≡ false). e) (cases_Bool (is_small m))
 
-pub out_of_w : (z : ℤ) → (least_signed ≤ℤ z → z ≤ℤ greatest_signed → ⊥) → is_signed z ≡ false
-out_of_w z h = ⊎_elim (λ (e : is_signed z ≡ true). let p = is_signed_true z e in absurd (h p.low p.high)) (λ (e : is_signed z ≡ false). e) (cases_Bool (is_signed z))
-
 -- the form, where numbers of the code are known to be those meant
 pub form_at : (m r m' r' : ℤ) → IsForm m r → m' ≡ m → r' ≡ r → IsForm m' r'
 form_at m r m' r' h e f = subst (λ (x : ℤ). IsForm m' x) (sym f) (subst (λ (x : ℤ). IsForm x r) (sym e) h)
@@ -104,7 +102,7 @@ make_zero_if z c p q w =
 
 pub constant_is : (r : Congruence) (n : ℤ) → r.modulus ≡ pos 0 → r.residue ≡ n → IsSigned n → r ≡ constant n
 unfolding constant
-constant_is r n p q w = ap (λ (o : Option Congruence). or_else o top) (make_zero_if n r p q w)
+constant_is r n p q w = ap (λ (o : Option Congruence). unwrap_or o top) (make_zero_if n r p q w)
 
 at_zero : (a : Congruence) → nat_eq (mod_of a) 0 ≡ true → single a ≡ Some a.residue
 at_zero a t = single_from a a.residue (eqb-true (mod_of a) 0 t) refl
@@ -114,12 +112,3 @@ pub then_exact : (op : ℤ → ℤ → ℤ) (f : Congruence → Congruence → O
 then_exact op f a b r z t e g w =
     let p = and_parts (nat_eq (mod_of a) 0) (nat_eq (mod_of b) 0) t in
     ap (λ (x : Congruence). Some x) (e ∙ ap constant g) ∙ exact2_single congruences single op f a b a.residue b.residue (at_zero a p.0) (at_zero b p.1) (subst IsSigned g w)
-
--- a range's modulus is that of a congruence
-pub range_small : (lo hi m : ℤ) → IsRange lo hi m → nat_abs m ≤ 2 ^ 32 - 1
-range_small lo hi m r =
-    let l = r.low.low in
-    let h = r.high.high in
-    let o = r.ordered in
-    ⊎_elim (λ (e : nat_eq (nat_abs (hi -ℤ lo)) 0 ≡ true). let f = eqb-true (nat_abs (hi -ℤ lo)) 0 e in let z = r.single (omega (arith, ints)) in omega (arith, ints))
-    (λ (e : nat_eq (nat_abs (hi -ℤ lo)) 0 ≡ false). let p = positive (nat_abs (hi -ℤ lo)) e in let d = le_of_dvd p (dvd_of_mod-eq-zero (nat_abs m) r.spaced) in omega (arith, ints)) (cases_Bool (nat_eq (nat_abs (hi -ℤ lo)) 0))

@@ -9,20 +9,24 @@ use Rattle.viper_word.specs.Words.{IsSigned, least_signed, is_signed}
 use Rattle.viper_word.specs.Signed.{wrapped, halved, shifted_left}
 use Rattle.viper_word.proofs.SignedLemmas.{wrapped_in_w}
 use Rattle.num_domain.specs.Domain.{Has}
-use Rattle.num_domain.specs.Options.{or_else}
+use Rattle.std.specs.Prelude.{unwrap_or}
 use Rattle.num_domain.specs.Exact.{one}
 use Rattle.num_domain.specs.ExactRule.{IsExact}
-use Rattle.num_domain.specs.Tests.{is_signed_true}
-use Rattle.congruence_dom.specs.Gcd.{gcd, gcd_right, gcd_greatest}
-use Rattle.congruence_dom.specs.Multiples.{Divides_is, Divides-zero}
-use Rattle.congruence_dom.specs.Wraps.{wrapped_divides}
-use Rattle.congruence_dom.specs.Congruences.{mod_of, make, congruence, single_form, next_from, reduce_zero, top, single, constant, sar, left_through, congruences}
-use Rattle.congruence_dom.specs.CongruenceOrder.{make_has, alone}
-use Rattle.congruence_dom.specs.CongruenceLaws.{single_is}
+use Rattle.num_domain.specs.evidence.ExactLaws.{constant_single}
+use Rattle.viper_word.proofs.Integers.{is_signed_true}
+use Rattle.viper_word.specs.Divisors.{gcd}
+use Rattle.viper_word.proofs.Gcd.{gcd_right, gcd_greatest}
+use Rattle.viper_word.proofs.Multiples.{Divides_is, Divides-zero}
+use Rattle.congruence_dom.specs.evidence.Wraps.{wrapped_divides}
+use Rattle.congruence_dom.specs.Residues.{mod_of, next_from}
+use Rattle.congruence_dom.specs.evidence.Forms.{single_form, reduce_zero}
+use Rattle.congruence_dom.specs.Congruences.{make, congruence, top, single, constant, sar, left_through, congruences}
+use Rattle.congruence_dom.specs.evidence.CongruenceOrder.{make_has, alone}
+use Rattle.congruence_dom.specs.evidence.CongruenceLaws.{single_is, single_laws}
 use Rattle.congruence_dom.specs.declared.congruence.Congruence.{Congruence}
 use Rattle.congruence_dom.proofs.CongruenceCode.{make_zero_if, make_large, make_none}
 
-some_is : (o : Option Congruence) (n : ℤ) → IsSomeAnd o (λ r. Has congruences r n) → o ≡ Some (or_else o top)
+some_is : (o : Option Congruence) (n : ℤ) → IsSomeAnd o (λ r. Has congruences r n) → o ≡ Some (unwrap_or o top)
 some_is None n h = absurd h
 some_is (Some r) n h = refl
 
@@ -64,6 +68,7 @@ left_at a b x e f =
 
 pub congruence_exact : IsExact congruences single
 congruence_exact = record {
+  constant = λ n w. constant_single congruences single single_laws (congruence (pos 0) n (single_form n w)) n refl;
   add = λ a b x y e f. let p = single_is a x e in let q = single_is b y f in make_at (gcd (mod_of a) (mod_of b)) (a.residue +ℤ b.residue) (x +ℤ y) (zero_gcd (mod_of a) (mod_of b) p.0 ∙ q.0) (ap₂ ◌+ℤ◌ p.1 q.1);
   sub = λ a b x y e f. let p = single_is a x e in let q = single_is b y f in make_at (gcd (mod_of a) (mod_of b)) (a.residue -ℤ b.residue) (x -ℤ y) (zero_gcd (mod_of a) (mod_of b) p.0 ∙ q.0) (ap₂ ◌-ℤ◌ p.1 q.1);
   add_wrap = λ a b x y e f. let p = single_is a x e in let q = single_is b y f in wrapped_at (gcd (gcd (mod_of a) (mod_of b)) (2 ^ 32)) (a.residue +ℤ b.residue) (x +ℤ y) (zero_gcd (gcd (mod_of a) (mod_of b)) (2 ^ 32) (zero_gcd (mod_of a) (mod_of b) p.0 ∙ q.0)) (ap₂ ◌+ℤ◌ p.1 q.1);

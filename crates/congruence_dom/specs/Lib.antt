@@ -1,11 +1,5 @@
 pub mod Form
 pub mod Limits
-pub mod Gcd
-pub mod Multiples
-pub mod Search
+pub mod Residues
 pub mod Congruences
-pub mod CongruenceOrder
-pub mod CommonMembers
-pub mod Solutions
-pub mod Wraps
-pub mod CongruenceLaws
+pub mod evidence

@@ -1,8 +1,8 @@
 ghost use Rattle.std.specs.Prelude.{◌≡◌, ℤ, IfSome};
 ghost use Rattle.congruence_dom.specs.Form.{IsForm};
 
-use num_domain::{NumDomain, Thresholds, signed};
-use viper_word::{GREATEST_SIGNED, Kind, LEAST_SIGNED};
+use num_domain::{NumDomain, Thresholds};
+use viper_word::{GREATEST_SIGNED, Kind, LEAST_SIGNED, signed_values};
 
 /// All signed values of words with one residue. The modulus 0 stands for the single value `residue`;
 /// else the modulus is from 1 to 4294967295 and the residue is from 0 below it.
@@ -14,14 +14,14 @@ pub struct Congruence {
 }
 
 impl NumDomain for Congruence {
-    ghost use Rattle.congruence_dom.specs.CommonMembers.{AreCommon, AreCommonMembers};
+    ghost use Rattle.congruence_dom.specs.evidence.CommonMembers.{AreCommon, AreCommonMembers};
     ghost use Rattle.congruence_dom.specs.Congruences.{congruences, refine};
-    ghost use Rattle.congruence_dom.specs.CongruenceLaws.{congruence_laws};
+    ghost use Rattle.congruence_dom.specs.evidence.CongruenceLaws.{congruence_laws};
 
     ghost domain = { congruences };
 
     fn constant(n: i64) -> Congruence {
-        Congruence::single(n)
+        Congruence::only(n)
     }
 
     fn top() -> Congruence {
@@ -74,7 +74,7 @@ impl NumDomain for Congruence {
 
     fn xor(&self, other: &Congruence) -> Option<Congruence> {
         if self.are_single(other) {
-            Some(Congruence::single(signed::xor(self.residue, other.residue)))
+            Some(Congruence::only(signed_values::xor(self.residue, other.residue)))
         } else {
             Some(Congruence::top())
         }
@@ -82,7 +82,7 @@ impl NumDomain for Congruence {
 
     fn bit_and(&self, other: &Congruence) -> Option<Congruence> {
         if self.are_single(other) {
-            Some(Congruence::single(signed::and(self.residue, other.residue)))
+            Some(Congruence::only(signed_values::and(self.residue, other.residue)))
         } else {
             Some(Congruence::top())
         }
@@ -90,7 +90,7 @@ impl NumDomain for Congruence {
 
     fn nor(&self, other: &Congruence) -> Option<Congruence> {
         if self.are_single(other) {
-            Some(Congruence::single(signed::nor(self.residue, other.residue)))
+            Some(Congruence::only(signed_values::nor(self.residue, other.residue)))
         } else {
             Some(Congruence::top())
         }
@@ -98,7 +98,7 @@ impl NumDomain for Congruence {
 
     fn and_not(&self, other: &Congruence) -> Option<Congruence> {
         if self.are_single(other) {
-            Some(Congruence::single(signed::and_not(self.residue, other.residue)))
+            Some(Congruence::only(signed_values::and_not(self.residue, other.residue)))
         } else {
             Some(Congruence::top())
         }
@@ -123,7 +123,7 @@ impl NumDomain for Congruence {
     fn right_through(&self, b: Option<bool>) -> Option<Congruence> {
         if self.is_single() {
             if let Some(bit) = b {
-                return Some(Congruence::single(signed::right_through(bit, self.residue)));
+                return Some(Congruence::only(signed_values::right_through(bit, self.residue)));
             }
         }
         Some(Congruence::top())

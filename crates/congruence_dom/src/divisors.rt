@@ -1,6 +1,6 @@
 ghost use Rattle.std.specs.Prelude.{◌≡◌, ◌<◌, ◌≤◌, ◌^◌, ℕ, IfSome, IsSomeAnd};
-ghost use Rattle.congruence_dom.specs.Gcd.{gcd};
-ghost use Rattle.congruence_dom.specs.Solutions.{IsSolution};
+ghost use Rattle.viper_word.specs.Divisors.{gcd};
+ghost use Rattle.congruence_dom.specs.evidence.Solutions.{IsSolution};
 
 /// The greatest common divisor, by Euclid's steps.
 pub(crate) fn gcd_of(a: u64, b: u64) -> u64

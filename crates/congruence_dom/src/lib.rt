@@ -4,7 +4,7 @@
 //! words.
 #![tactic(auto)]
 
-mod common;
+mod common_members;
 mod congruence;
 mod divisors;
 mod rows;

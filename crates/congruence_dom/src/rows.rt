@@ -1,21 +1,21 @@
 ghost use Rattle.std.specs.Prelude.{◌≡◌, ◌&&◌, ◌≤◌, ◌<◌, ◌-◌, ◌^◌, ◌≤ℤ◌, pos, neg_ℤ, nat_eq};
 ghost use Rattle.viper_word.specs.Words.{IsSigned};
-ghost use Rattle.congruence_dom.specs.Gcd.{gcd};
+ghost use Rattle.viper_word.specs.Divisors.{gcd};
 ghost use Rattle.congruence_dom.specs.Limits.{row_limit, difference_limit};
 
 use crate::congruence::Congruence;
 use crate::divisors::gcd_of;
-use num_domain::signed;
-use viper_word::{GREATEST_SIGNED, LEAST_SIGNED};
+use viper_word::{LEAST_SIGNED, is_signed, signed_values};
 
 /// The number of words.
-const WORDS: u64 = 0x1_0000_0000;
+const WORD_VALUES: u64 = 0x1_0000_0000;
 
 /// The greatest modulus of a congruence.
-const GREATEST_MODULUS: u64 = WORDS - 1;
+const GREATEST_MODULUS: u64 = WORD_VALUES - 1;
 
 impl Congruence {
-    ghost use Rattle.congruence_dom.specs.Congruences.{reduce, next_from, next_to, make, mod_of, join_modulus, common_modulus, wrapped_modulus, constant, sar, left_through, all_on};
+    ghost use Rattle.congruence_dom.specs.Residues.{reduce, next_from, next_to, mod_of, join_modulus};
+    ghost use Rattle.congruence_dom.specs.Congruences.{make, common_modulus, wrapped_modulus, constant, sar, left_through, all_on};
 
     /// The modulus, which isn't negative.
     pub(crate) fn divisor(&self) -> u64
@@ -39,7 +39,7 @@ impl Congruence {
     }
 
     /// The single value of a number.
-    pub(crate) fn single(n: i64) -> Congruence
+    pub(crate) fn only(n: i64) -> Congruence
         requires { IsSigned n }
         ensures { result ≡ constant n }
     {
@@ -79,7 +79,7 @@ impl Congruence {
         ensures value { result ≡ gcd m (2 ^ 32) }
         ensures small { result ≤ 2 ^ 32 }
     {
-        gcd_of(m, WORDS)
+        gcd_of(m, WORD_VALUES)
     }
 
     /// What is left of a number.
@@ -133,7 +133,7 @@ impl Congruence {
             })
         } else {
             let only = Congruence::next_from(m, z, LEAST_SIGNED);
-            if LEAST_SIGNED <= only && only <= GREATEST_SIGNED {
+            if is_signed(only) {
                 Some(Congruence {
                     modulus: 0,
                     residue: only,
@@ -150,7 +150,7 @@ impl Congruence {
         ensures { result ≡ sar self.now }
     {
         if self.divisor() % 2 == 0 {
-            Congruence::make(self.divisor() / 2, signed::half(self.residue))
+            Congruence::make(self.divisor() / 2, signed_values::half(self.residue))
         } else {
             Some(Congruence {
                 modulus: 1,

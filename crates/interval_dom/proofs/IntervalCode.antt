@@ -7,22 +7,22 @@ use Rattle.std.proofs.Common.{refl, sym, ap, subst, arith, ⊎_elim, ◌∙◌}
 use Rattle.std.proofs.lemmas.Int.{ints, clamps}
 use Rattle.std.proofs.lemmas.Bool.{and_parts, and_cases, false≢true, cond_both}
 use Rattle.viper_word.specs.Words.{IsSigned, is_signed}
-use Rattle.num_domain.specs.Options.{or_else}
+use Rattle.std.specs.Prelude.{unwrap_or}
 use Rattle.num_domain.specs.Exact.{exact1, exact2}
-use Rattle.num_domain.specs.ExactLaws.{exact1_single, exact1_row, exact2_single, exact2_first, exact2_second}
-use Rattle.num_domain.specs.Tests.{le_true, le_false}
+use Rattle.num_domain.specs.evidence.ExactLaws.{exact1_single, exact1_row, exact2_single, exact2_first, exact2_second}
+use Rattle.viper_word.proofs.Integers.{le_true, le_false}
 use Rattle.viper_word.specs.declared.kind.Kind.{Kind}
 use Rattle.viper_word.specs.declared.kind.Kind.TheVariants.{Lt, Gt, Ult}
-use Rattle.interval_dom.specs.Intervals.{cut, top, fits, single, constant, hull, without, left_row, least_bit, greatest_bit, power_above, negative_to, natural_to, refine, intervals}
-use Rattle.interval_dom.specs.IntervalRows.{power_small}
-use Rattle.interval_dom.specs.IntervalOrder.{cut_is, single_from, not_single}
+use Rattle.interval_dom.specs.Intervals.{cut, top, single, constant, hull, without, left_row, least_bit, greatest_bit, power_above, negative_to, natural_to, refine, intervals}
+use Rattle.interval_dom.specs.evidence.IntervalRows.{power_small}
+use Rattle.interval_dom.specs.evidence.IntervalOrder.{cut_is, single_from, not_single}
 use Rattle.interval_dom.specs.declared.interval.Interval.{Interval}
 
-pub span_is : (r : Interval) (lo hi : ℤ) → r.lo ≡ lo → r.hi ≡ hi → r ≡ or_else (cut lo hi) top
+pub span_is : (r : Interval) (lo hi : ℤ) → r.lo ≡ lo → r.hi ≡ hi → r ≡ unwrap_or (cut lo hi) top
 span_is r lo hi p q =
     let l = r.ends.low in
     let h = r.ends.high in
-    ap (λ (o : Option Interval). or_else o top) (cut_is r lo hi (omega (arith, ints, clamps)) (omega (arith, ints, clamps)))
+    ap (λ (o : Option Interval). unwrap_or o top) (cut_is r lo hi (omega (arith, ints, clamps)) (omega (arith, ints, clamps)))
 
 at_end : (a : Interval) → int_le a.hi a.lo ≡ true → single a ≡ Some a.lo
 at_end a t = single_from a a.lo refl (le_true a.hi a.lo t)
@@ -49,9 +49,8 @@ else_exact1 op f a t = exact1_row intervals single op f a (no_end a t)
 
 -- ---- rows
 
-pub fits_is : (r : Bool) (z z' : ℤ) → r ≡ fits z → z ≡ z' → r ≡ is_signed z'
-unfolding fits
-fits_is r z z' e f = e ∙ ap fits f
+pub signed_as : (r : Bool) (z z' : ℤ) → r ≡ is_signed z → z ≡ z' → r ≡ is_signed z'
+signed_as r z z' e f = e ∙ ap is_signed f
 
 pub left_then : (a : Interval) (b : Option Bool) (s t : Bool) (lo hi : ℤ) → s ≡ is_signed (a.lo +ℤ a.lo) → t ≡ is_signed (a.hi +ℤ a.hi +ℤ pos 1) → (s && t) ≡ true → lo ≡ a.lo +ℤ a.lo +ℤ least_bit b → hi ≡ a.hi +ℤ a.hi +ℤ greatest_bit b → cut lo hi ≡ left_row a b
 unfolding left_row

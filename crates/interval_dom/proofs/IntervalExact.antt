@@ -7,15 +7,16 @@ use Rattle.std.proofs.lemmas.Bool.{cases_Bool}
 use Rattle.viper_word.specs.Words.{IsSigned, is_signed}
 use Rattle.viper_word.specs.Signed.{halved}
 use Rattle.num_domain.specs.Domain.{Has}
-use Rattle.num_domain.specs.Options.{or_else}
+use Rattle.std.specs.Prelude.{unwrap_or}
 use Rattle.num_domain.specs.Exact.{one}
 use Rattle.num_domain.specs.ExactRule.{IsExact}
-use Rattle.num_domain.specs.Tests.{is_signed_true, true_is_signed}
-use Rattle.interval_dom.specs.Intervals.{cut, top, single, constant, intervals}
-use Rattle.interval_dom.specs.IntervalOrder.{cut_has, cut_all, single_is}
+use Rattle.num_domain.specs.evidence.ExactLaws.{constant_single}
+use Rattle.viper_word.proofs.Integers.{true_le, is_signed_true, true_is_signed}
+use Rattle.interval_dom.specs.Intervals.{interval, cut, top, single, constant, intervals}
+use Rattle.interval_dom.specs.evidence.IntervalOrder.{cut_has, cut_all, single_is, single_laws}
 use Rattle.interval_dom.specs.declared.interval.Interval.{Interval}
 
-some_is : (o : Option Interval) (n : ℤ) → IsSomeAnd o (λ r. Has intervals r n) → o ≡ Some (or_else o top)
+some_is : (o : Option Interval) (n : ℤ) → IsSomeAnd o (λ r. Has intervals r n) → o ≡ Some (unwrap_or o top)
 some_is None n h = absurd h
 some_is (Some r) n h = refl
 
@@ -39,6 +40,7 @@ cut_at lo hi z p q = ap₂ cut p q ∙ cut_one z
 
 pub interval_exact : IsExact intervals single
 interval_exact = record {
+  constant = λ n w. constant_single intervals single single_laws (interval n n (record { low = w.low; ordered = omega (arith, ints); high = w.high })) n (rw (true_le n n (omega (arith, ints))) refl);
   add = λ a b x y e f. let p = single_is a x e in let p0 = p.0 in let p1 = p.1 in let q = single_is b y f in let q0 = q.0 in let q1 = q.1 in cut_at (a.lo +ℤ b.lo) (a.hi +ℤ b.hi) (x +ℤ y) (omega (arith, ints)) (omega (arith, ints));
   sub = λ a b x y e f. let p = single_is a x e in let p0 = p.0 in let p1 = p.1 in let q = single_is b y f in let q0 = q.0 in let q1 = q.1 in cut_at (a.lo -ℤ b.hi) (a.hi -ℤ b.lo) (x -ℤ y) (omega (arith, ints)) (omega (arith, ints));
   add_wrap = λ a b x y e f. rw (e, f) refl;

@@ -2,19 +2,17 @@
 use Rattle.std.specs.Prelude.{◌≡◌, ℕ, ◌-◌, ◌^◌, ◌%◌, ◌==◌, ℤ, pos, negsuc, neg_ℤ, ◌+ℤ◌, ◌-ℤ◌, Bool, true, false, ◌&&◌, ◌||◌, cond, int_le, int_lt, nat_abs, Option, Some, None}
 use Rattle.std.specs.Ordering.{int_eq}
 use Rattle.std.specs.Int.{w32, int_min, int_max, leading_zeros}
-use Rattle.std.proofs.Common.{refl, arith}
-use Rattle.std.proofs.lemmas.Int.{ints, clamps}
+use Rattle.std.proofs.Common.{refl}
 use Rattle.viper_word.specs.Words.{least_signed, greatest_signed, is_signed}
 use Rattle.viper_word.specs.Signed.{wrapped, signed_xor, signed_and, signed_nor, signed_and_not, halved, shifted_right, shifted_left}
 use Rattle.viper_word.specs.declared.kind.Kind.{Kind}
 use Rattle.viper_word.specs.declared.kind.Kind.TheVariants.{Lt, Ge, Eq, Ne, Le, Gt, Ult, Uge}
 use Rattle.num_domain.specs.Domain.{Domain}
-use Rattle.num_domain.specs.Options.{or_else}
+use Rattle.std.specs.Prelude.{unwrap_or}
 use Rattle.num_domain.specs.Exact.{exact1, exact2, exact_flag}
 use Rattle.num_domain.specs.Rounding.{below, above}
-use Rattle.num_domain.specs.RoundingLaws.{below_low, below_le_self, above_high, above_ge_self}
-use Rattle.num_domain.specs.Tests.{le_true}
 use Rattle.interval_dom.specs.Bounds.{AreEnds}
+use Rattle.interval_dom.specs.evidence.Forms.{cut_ends, top_ends, join_ends, round_ends}
 use Rattle.interval_dom.specs.declared.interval.Interval.{Interval}
 
 -- ---- intervals that are made
@@ -27,17 +25,9 @@ abbrev pub interval_if : (lo hi : ℤ) (b : Bool) → (b ≡ true → AreEnds lo
 interval_if lo hi true h = Some (interval lo hi (h refl))
 interval_if lo hi false h = None
 
-pub cut_ends : (lo hi : ℤ) → int_le (int_max lo least_signed) (int_min hi greatest_signed) ≡ true → AreEnds (int_max lo least_signed) (int_min hi greatest_signed)
-cut_ends lo hi h =
-    let o = le_true (int_max lo least_signed) (int_min hi greatest_signed) h in
-    record { low = omega (arith, ints, clamps); ordered = o; high = omega (arith, ints, clamps) }
-
 -- the part of lo to hi that words can hold
 unfoldable pub cut : ℤ → ℤ → Option Interval
 cut lo hi = interval_if (int_max lo least_signed) (int_min hi greatest_signed) (int_le (int_max lo least_signed) (int_min hi greatest_signed)) (cut_ends lo hi)
-
-pub top_ends : AreEnds least_signed greatest_signed
-top_ends = record { low = omega (arith, ints); ordered = omega (arith, ints); high = omega (arith, ints) }
 
 abbrev pub top : Interval
 top = interval least_signed greatest_signed top_ends
@@ -46,25 +36,15 @@ top = interval least_signed greatest_signed top_ends
 unfoldable pub unwrapped : ℤ → ℤ → Option Interval
 unwrapped lo hi = cond (is_signed lo && is_signed hi) (cut lo hi) (Some top)
 
--- can a word hold the number?
-unfoldable pub fits : ℤ → Bool
-fits n = is_signed n
-
 -- the number of a single value
 abbrev pub single : Interval → Option ℤ
 single a = cond (int_le a.hi a.lo) (Some a.lo) None
 
 -- the single value of a number that a word can hold
 unfoldable pub constant : ℤ → Interval
-constant n = or_else (cut n n) top
+constant n = unwrap_or (cut n n) top
 
 -- ---- the rows
-
-pub join_ends : (a b : Interval) → AreEnds (int_min a.lo b.lo) (int_max a.hi b.hi)
-join_ends a b =
-    let e = a.ends in
-    let f = b.ends in
-    record { low = omega (arith, ints, clamps); ordered = omega (arith, ints, clamps); high = omega (arith, ints, clamps) }
 
 -- from the lesser of the low ends to the greater of the high ones
 abbrev pub join : Interval → Interval → Interval
@@ -156,13 +136,6 @@ greatest_to a n = cond (int_le a.lo n) (Some (int_min a.hi n)) None
 unfoldable pub all_on : Interval → ℤ → ℤ → Bool
 all_on a q t = int_eq q (pos 1) || (int_le a.hi a.lo && (nat_abs (a.lo -ℤ t) % nat_abs q == 0))
 
-pub round_ends : (ts : _) (a : Interval) → AreEnds (below ts a.lo) (above ts a.hi)
-round_ends ts a =
-    let e = a.ends in
-    let l = below_le_self ts a.lo e.low in
-    let g = above_ge_self ts a.hi e.high in
-    record { low = below_low ts a.lo; ordered = omega (arith, ints); high = above_high ts a.hi }
-
 -- ---- the domain
 
 abbrev pub intervals : Domain Interval
@@ -172,7 +145,7 @@ intervals = record {
   height = λ a. 2 ^ 32 - 1 - nat_abs (a.hi -ℤ a.lo);
   constant = constant;
   top = top;
-  span = λ lo hi m. or_else (cut lo hi) top;
+  span = λ lo hi m. unwrap_or (cut lo hi) top;
   join = join;
   add = λ a b. cut (a.lo +ℤ b.lo) (a.hi +ℤ b.hi);
   sub = λ a b. cut (a.lo -ℤ b.hi) (a.hi -ℤ b.lo);

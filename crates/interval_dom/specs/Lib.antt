@@ -1,6 +1,3 @@
 pub mod Bounds
 pub mod Intervals
-pub mod IntervalOrder
-pub mod IntervalRows
-pub mod IntervalRefine
-pub mod IntervalLaws
+pub mod evidence

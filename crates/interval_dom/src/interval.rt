@@ -1,8 +1,8 @@
 ghost use Rattle.std.specs.Prelude.{◌≡◌, IfSome};
 ghost use Rattle.interval_dom.specs.Bounds.{AreEnds};
 
-use num_domain::{NumDomain, Thresholds, signed};
-use viper_word::{GREATEST_SIGNED, Kind, LEAST_SIGNED};
+use num_domain::{NumDomain, Thresholds};
+use viper_word::{GREATEST_SIGNED, Kind, LEAST_SIGNED, signed_values};
 
 /// All numbers from `lo` to `hi`. Both are signed values of words, and `lo` is at most `hi`.
 #[derive(Clone, Copy, Debug, PartialEq, Eq)]
@@ -14,13 +14,13 @@ pub struct Interval {
 
 impl NumDomain for Interval {
     ghost use Rattle.interval_dom.specs.Intervals.{intervals, refine};
-    ghost use Rattle.interval_dom.specs.IntervalRefine.{AreReached};
-    ghost use Rattle.interval_dom.specs.IntervalLaws.{interval_laws};
+    ghost use Rattle.interval_dom.specs.evidence.IntervalRefine.{AreReached};
+    ghost use Rattle.interval_dom.specs.evidence.IntervalLaws.{interval_laws};
 
     ghost domain = { intervals };
 
     fn constant(n: i64) -> Interval {
-        Interval::single(n)
+        Interval::only(n)
     }
 
     fn top() -> Interval {
@@ -52,7 +52,7 @@ impl NumDomain for Interval {
 
     fn add_wrap(&self, other: &Interval) -> Option<Interval> {
         if self.are_single(other) {
-            Some(Interval::single(signed::wrapped_sum(self.lo, other.lo)))
+            Some(Interval::only(signed_values::wrapped_sum(self.lo, other.lo)))
         } else {
             Interval::unwrapped(self.lo + other.lo, self.hi + other.hi)
         }
@@ -60,7 +60,7 @@ impl NumDomain for Interval {
 
     fn sub_wrap(&self, other: &Interval) -> Option<Interval> {
         if self.are_single(other) {
-            Some(Interval::single(signed::wrapped_difference(self.lo, other.lo)))
+            Some(Interval::only(signed_values::wrapped_difference(self.lo, other.lo)))
         } else {
             Interval::unwrapped(self.lo - other.hi, self.hi - other.lo)
         }
@@ -68,7 +68,7 @@ impl NumDomain for Interval {
 
     fn xor(&self, other: &Interval) -> Option<Interval> {
         if self.are_single(other) {
-            Some(Interval::single(signed::xor(self.lo, other.lo)))
+            Some(Interval::only(signed_values::xor(self.lo, other.lo)))
         } else {
             self.xor_row(other)
         }
@@ -76,7 +76,7 @@ impl NumDomain for Interval {
 
     fn bit_and(&self, other: &Interval) -> Option<Interval> {
         if self.are_single(other) {
-            Some(Interval::single(signed::and(self.lo, other.lo)))
+            Some(Interval::only(signed_values::and(self.lo, other.lo)))
         } else {
             self.and_row(other)
         }
@@ -84,7 +84,7 @@ impl NumDomain for Interval {
 
     fn nor(&self, other: &Interval) -> Option<Interval> {
         if self.are_single(other) {
-            Some(Interval::single(signed::nor(self.lo, other.lo)))
+            Some(Interval::only(signed_values::nor(self.lo, other.lo)))
         } else {
             self.nor_row(other)
         }
@@ -92,7 +92,7 @@ impl NumDomain for Interval {
 
     fn and_not(&self, other: &Interval) -> Option<Interval> {
         if self.are_single(other) {
-            Some(Interval::single(signed::and_not(self.lo, other.lo)))
+            Some(Interval::only(signed_values::and_not(self.lo, other.lo)))
         } else {
             self.and_not_row(other)
         }
@@ -100,14 +100,14 @@ impl NumDomain for Interval {
 
     fn neg(&self) -> Option<Interval> {
         if self.is_single() {
-            Some(Interval::single(signed::wrapped_difference(0, self.lo)))
+            Some(Interval::only(signed_values::wrapped_difference(0, self.lo)))
         } else {
             Interval::unwrapped(-self.hi, -self.lo)
         }
     }
 
     fn sar(&self) -> Option<Interval> {
-        Interval::cut(signed::half(self.lo), signed::half(self.hi))
+        Interval::cut(signed_values::half(self.lo), signed_values::half(self.hi))
     }
 
     fn shl(&self) -> Option<Interval> {
@@ -121,7 +121,7 @@ impl NumDomain for Interval {
     fn right_through(&self, b: Option<bool>) -> Option<Interval> {
         if self.is_single() {
             if let Some(bit) = b {
-                return Some(Interval::single(signed::right_through(bit, self.lo)));
+                return Some(Interval::only(signed_values::right_through(bit, self.lo)));
             }
         }
         self.right_row(b)
@@ -130,7 +130,7 @@ impl NumDomain for Interval {
     fn left_through(&self, b: Option<bool>) -> Option<Interval> {
         if self.is_single() {
             if let Some(bit) = b {
-                return Some(Interval::single(signed::left_through(bit, self.lo)));
+                return Some(Interval::only(signed_values::left_through(bit, self.lo)));
             }
         }
         self.left_row(b)

@@ -1,19 +1,11 @@
 ghost use Rattle.std.specs.Prelude.{◌≡◌, ◌&&◌, ◌≤◌, ◌<◌, ◌^◌, ◌≤ℤ◌, pos, ◌+ℤ◌, ◌-ℤ◌, cond, int_le};
 ghost use Rattle.std.specs.Ordering.{int_eq};
 ghost use Rattle.viper_word.specs.Words.{IsSigned};
-ghost use Rattle.interval_dom.specs.Intervals.{fits, hull, least_bit, greatest_bit};
+ghost use Rattle.interval_dom.specs.Intervals.{hull, least_bit, greatest_bit};
 
 use crate::interval::Interval;
-use num_domain::{NumDomain, signed};
-use viper_word::{GREATEST_SIGNED, Kind, LEAST_SIGNED};
-
-/// Whether a word can hold the number.
-#[tactic(auto, unfolding(crate::specs::Intervals::fits))]
-fn fits(n: i64) -> bool
-    ensures { result ≡ fits n }
-{
-    LEAST_SIGNED <= n && n <= GREATEST_SIGNED
-}
+use num_domain::NumDomain;
+use viper_word::{GREATEST_SIGNED, Kind, LEAST_SIGNED, is_signed, signed_values};
 
 impl Interval {
     ghost use Rattle.interval_dom.specs.Intervals.{cut, unwrapped, constant, join, without};
@@ -34,11 +26,11 @@ impl Interval {
     }
 
     /// From `lo` to `hi` where words can hold both, and else everything.
-    #[tactic(auto, unfolding(crate::specs::Intervals::unwrapped, crate::specs::Intervals::fits))]
+    #[tactic(auto, unfolding(crate::specs::Intervals::unwrapped))]
     pub(crate) fn unwrapped(lo: i64, hi: i64) -> Option<Interval>
         ensures { result ≡ unwrapped lo hi }
     {
-        if fits(lo) && fits(hi) {
+        if is_signed(lo) && is_signed(hi) {
             Interval::cut(lo, hi)
         } else {
             Some(Interval::top())
@@ -46,7 +38,7 @@ impl Interval {
     }
 
     /// The single value of a number.
-    pub(crate) fn single(n: i64) -> Interval
+    pub(crate) fn only(n: i64) -> Interval
         requires { IsSigned n }
         ensures { result ≡ constant n }
     {
@@ -159,7 +151,7 @@ impl Interval {
             Some(true) => Interval::cut(LEAST_SIGNED, -1),
             Some(false) => {
                 if self.is_natural() {
-                    Interval::cut(signed::half(self.lo), signed::half(self.hi))
+                    Interval::cut(signed_values::half(self.lo), signed_values::half(self.hi))
                 } else {
                     Interval::cut(0, GREATEST_SIGNED)
                 }
@@ -174,7 +166,7 @@ impl Interval {
     {
         let low = self.lo + self.lo;
         let high = self.hi + self.hi;
-        if fits(low) && fits(high + 1) {
+        if is_signed(low) && is_signed(high + 1) {
             Interval::cut(low + least_bit(b), high + greatest_bit(b))
         } else {
             Some(Interval::top())
@@ -276,11 +268,7 @@ fn least_bit(b: Option<bool>) -> i64
     ensures natural { pos 0 ≤ℤ result }
     ensures small { result ≤ℤ pos 1 }
 {
-    match b {
-        Some(true) => 1,
-        Some(false) => 0,
-        None => 0,
-    }
+    i64::from(b.unwrap_or(false))
 }
 
 /// The highest bit that may be shifted in.
@@ -289,11 +277,7 @@ fn greatest_bit(b: Option<bool>) -> i64
     ensures natural { pos 0 ≤ℤ result }
     ensures small { result ≤ℤ pos 1 }
 {
-    match b {
-        Some(true) => 1,
-        Some(false) => 0,
-        None => 1,
-    }
+    i64::from(b.unwrap_or(true))
 }
 
 /// The least interval around both.

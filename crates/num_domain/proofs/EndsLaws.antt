@@ -8,8 +8,8 @@ use Rattle.viper_word.specs.Words.{IsSigned, least_signed, greatest_signed}
 use Rattle.num_domain.specs.Domain.{Domain, Has, Below}
 use Rattle.num_domain.specs.Laws.{DomainLaws}
 use Rattle.num_domain.specs.Ends.{Ends, Within, Between, ends_when, same_as, is_between, ends, is_point}
-use Rattle.num_domain.specs.OptionLemmas.{some_bind, all_bind, bind_mono}
-use Rattle.num_domain.specs.Tests.{le_true, true_le}
+use Rattle.viper_word.proofs.Options.{some_bind, all_bind, bind_mono}
+use Rattle.viper_word.proofs.Integers.{le_true, true_le}
 
 ends_when_some : (lo hi : ℤ) (b : Bool) (e : int_le lo hi ≡ b) (P : Ends → Type 0) → lo ≤ℤ hi → ((p : lo ≤ℤ hi) → P (record { lo = lo; hi = hi; order = p })) → IsSomeAnd (ends_when lo hi b e) P
 unfolding ends_when

@@ -1,3 +1,2 @@
 pub mod ThresholdLemmas
 pub mod EndsLaws
-pub mod SignedCode

@@ -12,7 +12,7 @@ use Rattle.std.proofs.lemmas.Cmp.{int_cmp_total}
 use Rattle.std.proofs.lemmas.List.Elements.{All-nil, All-cons, All-append, All-weaker, All-get_or, Contains-append_right, Contains-get_or, at_from_Contains, filter_passes}
 use Rattle.std.proofs.lemmas.List.Sorted.{All-permutation, Contains-permutation, ranks_by, sorted_far}
 use Rattle.num_domain.specs.Rounding.{with_ends, below, above, IsThresholds}
-use Rattle.num_domain.specs.Tests.{le_true, le_false, is_signed_true}
+use Rattle.viper_word.proofs.Integers.{le_true, le_false, is_signed_true}
 
 le-or-lt : (a b : ℕ) → (a ≤ b) ⊎ (b < a)
 le-or-lt a b = ⊎_elim (λ (e : nat_le a b ≡ true). inl (leb-true a b e)) (λ (e : nat_le a b ≡ false). inr (leb-false a b e)) (cases_Bool (nat_le a b))

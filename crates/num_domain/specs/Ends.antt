@@ -4,8 +4,8 @@ use Rattle.std.specs.Ordering.{int_eq}
 use Rattle.std.proofs.Common.{refl}
 use Rattle.viper_word.specs.Words.{least_signed, greatest_signed}
 use Rattle.num_domain.specs.Domain.{Domain}
-use Rattle.num_domain.specs.Options.{bind}
-use Rattle.num_domain.specs.Tests.{le_true}
+use Rattle.viper_word.specs.Options.{bind}
+use Rattle.viper_word.proofs.Integers.{le_true}
 
 -- the least and the greatest number that a value may have
 pub record Ends : Type 0 where

@@ -1,5 +1,6 @@
 -- The exact rule: the exact result of single values is the answer, as a single value.
 use Rattle.std.specs.Prelude.{◌≡◌, ℤ, ◌+ℤ◌, ◌-ℤ◌, neg_ℤ, Bool, Option, Some}
+use Rattle.viper_word.specs.Words.{IsSigned}
 use Rattle.viper_word.specs.Signed.{wrapped, signed_xor, signed_and, signed_nor, signed_and_not, halved, shifted_right, shifted_left}
 use Rattle.num_domain.specs.Domain.{Domain}
 use Rattle.num_domain.specs.Exact.{one}
@@ -13,8 +14,9 @@ Exact2 {A} d single f op = (a b : A) (x y : ℤ) → single a ≡ Some x → sin
 abbrev pub ExactFlag : {A : Type 0} → Domain A → (A → Option ℤ) → (A → Option Bool → Option A) → (Bool → ℤ → ℤ) → Type 0
 ExactFlag {A} d single f op = (a : A) (b : Bool) (x : ℤ) → single a ≡ Some x → f a (Some b) ≡ one d.constant single (op b x)
 
--- of single arguments each function gives the exact result, or None where no word can hold it
+-- a constant is single, and of single arguments each function gives the exact result, or None where no word can hold it
 pub record IsExact {A : Type 0} (d : Domain A) (single : A → Option ℤ) : Type 0 where
+  pub constant : (n : ℤ) → IsSigned n → single (d.constant n) ≡ Some n
   pub add : Exact2 d single d.add ◌+ℤ◌
   pub sub : Exact2 d single d.sub ◌-ℤ◌
   pub add_wrap : Exact2 d single d.add_wrap (λ x y. wrapped (x +ℤ y))

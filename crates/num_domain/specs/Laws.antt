@@ -4,7 +4,7 @@ use Rattle.viper_word.specs.Words.{IsSigned}
 use Rattle.viper_word.specs.Signed.{wrapped, signed_xor, signed_and, signed_nor, signed_and_not, halved, shifted_right, shifted_left, signed_compares}
 use Rattle.viper_word.specs.declared.kind.Kind.{Kind}
 use Rattle.num_domain.specs.Domain.{Domain, Has, Below, BelowOption, LeFlag, MayBe}
-use Rattle.num_domain.specs.Ranges.{IsRange, InRange, OnStep}
+use Rattle.viper_word.specs.Ranges.{IsRange, InRange, OnStep}
 
 -- the answer has each result of the members that a word can hold
 abbrev pub Sound1 : {A : Type 0} → Domain A → (A → Option A) → (ℤ → ℤ) → Type 0

@@ -1,15 +1,8 @@
 pub mod Domain
-pub mod Ranges
 pub mod Laws
-pub mod Options
 pub mod Exact
 pub mod Pairs
 pub mod Rounding
-pub mod Tests
-pub mod OptionLemmas
-pub mod ExactLaws
-pub mod PairLaws
 pub mod Ends
-pub mod RoundingLaws
-pub mod StepLaws
 pub mod ExactRule
+pub mod evidence

@@ -2,7 +2,8 @@
 use Rattle.std.specs.Prelude.{◌+◌, ℤ, int_le, ◌&&◌, ◌||◌, cond, Option, Some, None}
 use Rattle.viper_word.specs.Words.{least_signed, greatest_signed}
 use Rattle.num_domain.specs.Domain.{Domain}
-use Rattle.num_domain.specs.Options.{bind, or_else}
+use Rattle.viper_word.specs.Options.{bind}
+use Rattle.std.specs.Prelude.{unwrap_or}
 use Rattle.num_domain.specs.declared.pair.Pair.{Pair}
 
 abbrev pub pair : {L R : Type 0} → L → R → Pair L R
@@ -44,9 +45,9 @@ module _ {L R : Type 0} (l : Domain L) (r : Domain R) where
     has = λ p n. l.has p.left n && r.has p.right n;
     includes = λ p q. l.includes p.left q.left && r.includes p.right q.right;
     height = λ p. l.height p.left + r.height p.right;
-    constant = λ n. or_else (seal (pair (l.constant n) (r.constant n))) (pair l.top r.top);
+    constant = λ n. unwrap_or (seal (pair (l.constant n) (r.constant n))) (pair l.top r.top);
     top = pair l.top r.top;
-    span = λ lo hi m. or_else (seal (pair (l.span lo hi m) (r.span lo hi m))) (pair l.top r.top);
+    span = λ lo hi m. unwrap_or (seal (pair (l.span lo hi m) (r.span lo hi m))) (pair l.top r.top);
     join = λ p q. pair (l.join p.left q.left) (r.join p.right q.right);
     add = lift2 l.add r.add;
     sub = lift2 l.sub r.sub;

@@ -2,7 +2,7 @@ ghost use Rattle.std.specs.Prelude.{◌≡◌, ◌≤ℤ◌, pos, neg_ℤ, ◌^�
 ghost use Rattle.viper_word.specs.Words.{IsSigned};
 ghost use Rattle.num_domain.specs.Domain.{Domain};
 ghost use Rattle.num_domain.specs.Laws.{DomainLaws};
-ghost use Rattle.num_domain.specs.Ranges.{IsRange};
+ghost use Rattle.viper_word.specs.Ranges.{IsRange};
 
 use crate::Thresholds;
 use viper_word::Kind;

@@ -7,7 +7,6 @@
 
 mod domain;
 mod pair;
-pub mod signed;
 mod thresholds;
 
 pub use domain::NumDomain;

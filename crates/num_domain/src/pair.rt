@@ -13,7 +13,7 @@ pub struct Pair<L, R> {
 }
 
 impl<L: NumDomain, R: NumDomain> Pair<L, R> {
-    ghost use Rattle.num_domain.specs.Options.{or_else};
+    ghost use Rattle.std.specs.Prelude.{unwrap_or};
     ghost use Rattle.num_domain.specs.Pairs.{pair, seal};
 
     /// Both factors, narrowed to the numbers from the least to the greatest that may be members.
@@ -36,7 +36,8 @@ impl<L: NumDomain, R: NumDomain> Pair<L, R> {
 
     /// The same for a pair that has a member, and so is never left empty.
     fn sealed_or_top(&self) -> Self
-        ensures { result ≡ or_else (seal L.domain R.domain self.now) (pair L.domain.top R.domain.top) }
+        ensures { result
+            ≡ unwrap_or (seal L.domain R.domain self.now) (pair L.domain.top R.domain.top) }
     {
         match self.sealed() {
             Some(sealed) => sealed,
@@ -47,7 +48,7 @@ impl<L: NumDomain, R: NumDomain> Pair<L, R> {
 
 impl<L: NumDomain, R: NumDomain> NumDomain for Pair<L, R> {
     ghost use Rattle.num_domain.specs.Pairs.{pairs};
-    ghost use Rattle.num_domain.specs.PairLaws.{pair_laws};
+    ghost use Rattle.num_domain.specs.evidence.PairLaws.{pair_laws};
 
     ghost domain = { pairs L.domain R.domain };
 

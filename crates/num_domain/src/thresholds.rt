@@ -6,7 +6,7 @@ ghost use Rattle.num_domain.specs.Rounding.{with_ends, below, above, IsThreshold
 
 use std::alloc::{AllocError, Global};
 use std::marker::Model;
-use viper_word::{GREATEST_SIGNED, LEAST_SIGNED, Memory};
+use viper_word::{GREATEST_SIGNED, LEAST_SIGNED, Memory, is_signed};
 
 /// Numbers to round to, in ascending order. Both ends of the signed values are among them.
 #[derive(Drop)]
@@ -101,7 +101,7 @@ fn gathered(alloc: Global, numbers: &[i64]) -> Result<Vec<i64>, AllocError>
 {
     let mut kept = Vec::new(alloc);
     for n in numbers {
-        if LEAST_SIGNED <= *n && *n <= GREATEST_SIGNED {
+        if is_signed(*n) {
             kept.push(*n)?;
         }
     }

@@ -2,9 +2,9 @@
 use Rattle.std.specs.Prelude.{◌≡◌, Option, Some, None, IfSome}
 use Rattle.std.proofs.Common.{ap, subst}
 use Rattle.val_dom.specs.Normal.{IsNormal}
-use Rattle.val_dom.specs.Seals.{P}
-use Rattle.val_dom.specs.Vals.{wrap}
-use Rattle.val_dom.specs.ValLaws.{val_from}
+use Rattle.val_dom.specs.Normal.{P}
+use Rattle.val_dom.specs.Made.{wrap}
+use Rattle.val_dom.specs.evidence.ValLaws.{val_from}
 use Rattle.val_dom.specs.declared.val.Val.{Val}
 
 pub wrap_is : (v : Val) (o : Option P) (h : IfSome o IsNormal) → Some v.pair ≡ o → Some v ≡ wrap o h

@@ -5,29 +5,35 @@ use Rattle.std.proofs.Math.Path.{ap₂}
 use Rattle.std.proofs.lemmas.Int.{ints}
 use Rattle.std.proofs.lemmas.Bool.{cases_Bool}
 use Rattle.viper_word.specs.Signed.{wrapped, signed_xor, signed_and, signed_nor, signed_and_not, halved, shifted_right, shifted_left}
-use Rattle.viper_word.specs.Words.{is_signed}
-use Rattle.num_domain.specs.Domain.{Has}
-use Rattle.num_domain.specs.Options.{bind, or_else}
+use Rattle.viper_word.specs.Words.{IsSigned, is_signed}
+use Rattle.num_domain.specs.Domain.{Has, BelowOption}
+use Rattle.viper_word.specs.Options.{bind}
+use Rattle.std.specs.Prelude.{unwrap_or}
 use Rattle.num_domain.specs.Exact.{one}
 use Rattle.num_domain.specs.ExactRule.{IsExact}
-use Rattle.num_domain.specs.Tests.{le_true, is_signed_true}
+use Rattle.viper_word.proofs.Integers.{le_true, is_signed_true}
 use Rattle.num_domain.specs.Pairs.{pair, both, seal}
-use Rattle.num_domain.specs.PairLaws.{both_has, seal_has}
+use Rattle.num_domain.specs.evidence.PairLaws.{both_has, le_both, seal_has, seal_below}
 use Rattle.interval_dom.specs.Intervals.{intervals}
 use Rattle.interval_dom.specs.Intervals as iv
-use Rattle.interval_dom.specs.IntervalLaws.{interval_laws}
+use Rattle.interval_dom.specs.evidence.IntervalOrder.{single_laws as interval_single}
+use Rattle.interval_dom.specs.evidence.IntervalLaws.{interval_laws}
 use Rattle.interval_dom.specs.declared.interval.Interval.{Interval}
 use Rattle.interval_dom.proofs.IntervalExact.{interval_exact}
-use Rattle.congruence_dom.specs.Congruences.{congruences, mod_of}
+use Rattle.congruence_dom.specs.Residues.{mod_of}
+use Rattle.congruence_dom.specs.Congruences.{congruences}
 use Rattle.congruence_dom.specs.Congruences as cg
-use Rattle.congruence_dom.specs.CongruenceOrder.{has_parts, only_member}
-use Rattle.congruence_dom.specs.CongruenceLaws.{congruence_laws, single_from}
+use Rattle.congruence_dom.specs.evidence.CongruenceOrder.{has_parts, only_member}
+use Rattle.congruence_dom.specs.evidence.CongruenceLaws.{congruence_laws, single_from}
 use Rattle.congruence_dom.specs.declared.congruence.Congruence.{Congruence}
 use Rattle.congruence_dom.proofs.CongruenceExact.{congruence_exact}
 use Rattle.val_dom.specs.Normal.{IsNormal}
-use Rattle.val_dom.specs.Seals.{P, seal_normal}
-use Rattle.val_dom.specs.Vals.{base, val, wrap, single, vals, constant_normal, add_normal, sub_normal, add_wrap_normal, sub_wrap_normal, xor_normal, bit_and_normal, nor_normal, and_not_normal, neg_normal, sar_normal, shl_normal, moved_normal, right_through_normal, left_through_normal}
-use Rattle.val_dom.specs.ValLaws.{val_from, normal_prop}
+use Rattle.val_dom.specs.Normal.{P}
+use Rattle.val_dom.specs.evidence.Seals.{seal_normal}
+use Rattle.val_dom.specs.Made.{base, val, wrap}
+use Rattle.val_dom.specs.evidence.NormalForms.{constant_normal, add_normal, sub_normal, add_wrap_normal, sub_wrap_normal, xor_normal, bit_and_normal, nor_normal, and_not_normal, neg_normal, sar_normal, shl_normal, moved_normal, right_through_normal, left_through_normal}
+use Rattle.val_dom.specs.Vals.{single, vals}
+use Rattle.val_dom.specs.evidence.ValLaws.{val_from, normal_prop}
 use Rattle.val_dom.specs.declared.val.Val.{Val}
 
 -- ---- a single value is single in both factors
@@ -56,7 +62,7 @@ wrap_same None (Some q) h h' e = cc
 wrap_same (Some p) None h h' e = cc
 wrap_same (Some p) (Some q) h h' e = let f : p ≡ q = cc in ap (λ (v : Val). Some v) (val_from (val p h) q f h')
 
-wrap_or : (o : Option P) (h : IfSome o IsNormal) (n : ℤ) → IsSomeAnd o (λ p. Has base p n) → (k : IsNormal (or_else o base.top)) → wrap o h ≡ Some (val (or_else o base.top) k)
+wrap_or : (o : Option P) (h : IfSome o IsNormal) (n : ℤ) → IsSomeAnd o (λ p. Has base p n) → (k : IsNormal (unwrap_or o base.top)) → wrap o h ≡ Some (val (unwrap_or o base.top) k)
 wrap_or None h n s k = absurd s
 wrap_or (Some p) h n s k = λ i. Some (val p (normal_prop p h k i))
 
@@ -81,8 +87,23 @@ exact_at z o q h e f =
     rw t (wrap_none (bind (both intervals congruences o q) (seal intervals congruences)) h g))
     (cases_Bool (is_signed z))
 
+-- what is sealed of two constants is single, as the interval in it is
+sealed_single : (n : ℤ) (o : Option P) → IsSomeAnd o (λ p. Has base p n) → BelowOption base o (Some (pair (intervals.constant n) (congruences.constant n)))
+    → iv.single (intervals.constant n) ≡ Some n → (k : IsNormal (unwrap_or o base.top)) → single (val (unwrap_or o base.top) k) ≡ Some n
+sealed_single n None s h e k = absurd s
+sealed_single n (Some q) s h e k =
+    interval_single.below q.left (intervals.constant n) n (le_both intervals congruences q (pair (intervals.constant n) (congruences.constant n)) h).0 e
+
+constant_is_single : (n : ℤ) → IsSigned n → single (vals.constant n) ≡ Some n
+constant_is_single n w =
+    let p = pair (intervals.constant n) (congruences.constant n) in
+    sealed_single n (seal intervals congruences p)
+    (seal_has intervals congruences interval_laws congruence_laws p n (both_has intervals congruences p n (interval_laws.order.constant_has n w) (congruence_laws.order.constant_has n w)))
+    (seal_below intervals congruences interval_laws congruence_laws p) (interval_exact.constant n w) (constant_normal n)
+
 pub val_exact : IsExact vals single
 val_exact = record {
+  constant = constant_is_single;
   add = λ a b x y e g. exact_at (x +ℤ y) (intervals.add a.pair.left b.pair.left) (congruences.add a.pair.right b.pair.right) (add_normal a b) (interval_exact.add a.pair.left b.pair.left x y (left_single a x e) (left_single b y g)) (congruence_exact.add a.pair.right b.pair.right x y (right_single a x e) (right_single b y g));
   sub = λ a b x y e g. exact_at (x -ℤ y) (intervals.sub a.pair.left b.pair.left) (congruences.sub a.pair.right b.pair.right) (sub_normal a b) (interval_exact.sub a.pair.left b.pair.left x y (left_single a x e) (left_single b y g)) (congruence_exact.sub a.pair.right b.pair.right x y (right_single a x e) (right_single b y g));
   add_wrap = λ a b x y e g. exact_at (wrapped (x +ℤ y)) (intervals.add_wrap a.pair.left b.pair.left) (congruences.add_wrap a.pair.right b.pair.right) (add_wrap_normal a b) (interval_exact.add_wrap a.pair.left b.pair.left x y (left_single a x e) (left_single b y g)) (congruence_exact.add_wrap a.pair.right b.pair.right x y (right_single a x e) (right_single b y g));

@@ -7,13 +7,16 @@ use Rattle.std.proofs.lemmas.Int.{ints}
 use Rattle.std.proofs.lemmas.Bool.{cases_Bool, eqb-true}
 use Rattle.viper_word.specs.Words.{IsSigned}
 use Rattle.num_domain.specs.Domain.{Has, Below}
-use Rattle.num_domain.specs.PairLaws.{both_has, has_both, both_le}
-use Rattle.num_domain.specs.Tests.{le_true, le_false}
+use Rattle.num_domain.specs.evidence.PairLaws.{both_has, has_both, both_le}
+use Rattle.viper_word.proofs.Integers.{le_true, le_false}
 use Rattle.interval_dom.specs.Intervals.{intervals}
-use Rattle.interval_dom.specs.IntervalOrder.{has_ends, ends_has, ends_below}
-use Rattle.congruence_dom.specs.Multiples.{Divides, Divides-sum, Divides-difference, Divides_trans}
-use Rattle.congruence_dom.specs.Congruences.{congruences, mod_of, positive}
-use Rattle.congruence_dom.specs.CongruenceOrder.{has_parts, parts_has, parts_below}
+use Rattle.interval_dom.specs.evidence.IntervalOrder.{has_ends, ends_has, ends_below}
+use Rattle.viper_word.specs.Divisors.{Divides}
+use Rattle.viper_word.proofs.Multiples.{Divides-sum, Divides-difference, Divides_trans}
+use Rattle.congruence_dom.specs.Residues.{mod_of}
+use Rattle.congruence_dom.specs.evidence.Forms.{positive}
+use Rattle.congruence_dom.specs.Congruences.{congruences}
+use Rattle.congruence_dom.specs.evidence.CongruenceOrder.{has_parts, parts_has, parts_below}
 use Rattle.val_dom.specs.Vals.{vals}
 use Rattle.val_dom.specs.declared.val.Val.{Val}
 
@@ -65,8 +68,8 @@ pub members_below : (a b : Val) → ((n : ℤ) → Has vals a n → Has vals b n
 members_below a b f =
     let lo = parts_of b a.pair.left.lo (f a.pair.left.lo (low_of a)) in
     let hi = parts_of b a.pair.left.hi (f a.pair.left.hi (high_of a)) in
-    let l = (has_ends b.pair.left a.pair.left.lo lo.0).0 in
-    let h = (has_ends b.pair.left a.pair.left.hi hi.0).1 in
+    let l = (has_ends b.pair.left a.pair.left.lo lo.0).low in
+    let h = (has_ends b.pair.left a.pair.left.hi hi.0).high in
     let m = modulus_divides a b f in
     let x = (has_parts b.pair.right a.pair.left.lo lo.1).1 in
     let y = (has_parts a.pair.right a.pair.left.lo a.normal.low_member).1 in

@@ -1,4 +1,4 @@
 pub mod Normal
-pub mod Seals
+pub mod Made
 pub mod Vals
-pub mod ValLaws
+pub mod evidence

@@ -18,7 +18,7 @@ pub struct Val {
 
 impl NumDomain for Val {
     ghost use Rattle.val_dom.specs.Vals.{vals};
-    ghost use Rattle.val_dom.specs.ValLaws.{val_laws};
+    ghost use Rattle.val_dom.specs.evidence.ValLaws.{val_laws};
 
     ghost domain = { vals };
 

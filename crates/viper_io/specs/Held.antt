@@ -1,8 +1,8 @@
 -- What the stores and sinks in memory hold, and what a call of theirs answers and leaves.
-use Rattle.std.specs.Prelude.{ℕ, List, [], ◌∷◌, ◌++◌, length, Bool, nat_eq, nat_le, Option, Some, None, unwrap_or, Result, Ok, Err, if◌then◌else◌}
+use Rattle.std.specs.Prelude.{◌≡◌, ℕ, take, List, [], ◌∷◌, ◌++◌, length, Bool, true, nat_eq, nat_le, Option, Some, None, unwrap_or, Result, Ok, Err, if◌then◌else◌}
 use Rattle.std.specs.List.{list_any}
 use Rattle.std.specs.Str.{bytes_eq}
-use Rattle.viper_io.specs.Causes.{Failure, risen}
+use Rattle.viper_io.specs.Causes.{Failure, Handed, Stock, Output, risen}
 use Rattle.viper_io.specs.declared.fault.Call.{Call}
 use Rattle.viper_io.specs.declared.fault.FetchFault.{FetchFault}
 use Rattle.viper_io.specs.declared.fault.FetchFault.TheVariants.{Failed, Long}
@@ -20,22 +20,32 @@ content_of (entry ∷ entries) name = if bytes_eq entry.0 name then Some entry.1
 abbrev pub content_or_empty : Contents → List ℕ → List ℕ
 content_or_empty contents name = unwrap_or (content_of contents name) []
 
--- a shelf that never fails: what it holds, and how often a content was too long
+-- a shelf that never fails: what it holds, how often a content was too long, and what was handed out
 pub record SureShelfState : Type 0 where
   pub contents : Contents
   pub longs : ℕ
+  pub handed : List Handed
 
 -- what the names of such a shelf hold
 abbrev pub sure_holds : SureShelfState → List ℕ → Option (List ℕ)
 sure_holds shelf name = Some (content_or_empty shelf.contents name)
 
--- a shelf: what it holds, the numbers of the calls that are to fail, how many calls there were, which of them failed, and how often a content was too long
+-- what such a shelf tells and keeps: no call failed
+abbrev pub sure_stock : SureShelfState → Stock
+sure_stock shelf = record { tells = true; holds = sure_holds shelf; failures = []; longs = shelf.longs; handed = shelf.handed }
+
+-- a page that never fails: it tells all that was put
+abbrev pub sure_output : List ℕ → Output
+sure_output text = record { text = Some text; faults = 0 }
+
+-- a shelf: what it holds, the numbers of the calls that are to fail, how many calls there were, which of them failed, how often a content was too long, and what was handed out
 pub record ShelfState : Type 0 where
   pub contents : Contents
   pub failing : List ℕ
   pub calls : ℕ
   pub failures : List Failure
   pub longs : ℕ
+  pub handed : List Handed
 
 -- what the names of a shelf hold
 abbrev pub shelf_holds : ShelfState → List ℕ → Option (List ℕ)
@@ -74,10 +84,15 @@ abbrev pub taken_of : List (ℕ × ℕ) → ℕ → Option ℕ
 taken_of [] put = None
 taken_of (entry ∷ entries) put = if nat_eq entry.0 put then Some entry.1 else taken_of entries put
 
--- the files of a system: which calls failed, and how often a content was too long
+-- a page took the first bytes of a put
+abbrev pub Took : PageState → PageState → List ℕ → ℕ → Type 0
+Took before now bytes taken = now.bytes ≡ before.bytes ++ take taken bytes
+
+-- the files of a system: which calls failed, how often a content was too long, and what was handed out
 pub record FileState : Type 0 where
   pub failures : List Failure
   pub longs : ℕ
+  pub handed : List Handed
 
 -- a sink over a writer: the bytes that the writer holds, where it tells them, and how often it failed
 pub record OutState : Type 0 where

@@ -1,27 +1,26 @@
-ghost use Rattle.std.specs.Prelude.{◌≡◌, ◌≤◌, ℕ, List, take, Option, OnOk, IfErr};
-ghost use Rattle.viper_io.specs.Causes.{Rose, Wrote};
+ghost use Rattle.std.specs.Prelude.{◌≡◌, ◌≤◌, ℕ, take, OnOk, IfErr};
+ghost use Rattle.viper_io.specs.Causes.{Output, Wrote, faults_after};
 
 use crate::SinkFault;
 
 /// Where texts go.
 ///
 /// A sink may tell what was put, as one in memory does, or not, as one over a writer. It keeps the
-/// count of its failures, which never falls.
+/// count of its failures, up to 2^64 - 1, to which a put that fails adds one, and no other.
 pub trait Sink {
-    /// What was put, where the sink tells it.
-    ghost put_so_far: { Self → Option (List ℕ) };
-
-    /// How often it failed, up to 2^64 - 1.
-    ghost faults: { Self → ℕ };
+    /// What was put, where the sink tells it, and how often it failed.
+    ghost output: { Self → Output };
 
     /// Puts the bytes behind those before.
     ///
-    /// `Failed` comes only where the count of failures rose, and leaves the first bytes, as many
-    /// as went through. `Memory` puts nothing.
+    /// `Failed` is counted, and leaves the first bytes, as many as went through. `Memory` puts
+    /// nothing.
     fn put(&mut self, bytes: &[u8]) -> Result<(), SinkFault>
-        ensures ok { OnOk result (Wrote (put_so_far self.old) bytes.now (put_so_far self.new)) }
-        ensures front { IfErr result (λ e. e ≡ SinkFault.Failed → ((n : ℕ) × Wrote (put_so_far self.old) (take n bytes.now) (put_so_far self.new))) }
-        ensures memory { IfErr result (λ e. e ≡ SinkFault.Memory → put_so_far self.new ≡ put_so_far self.old) }
-        ensures faults { faults self.old ≤ faults self.new }
-        ensures failed { IfErr result (λ e. e ≡ SinkFault.Failed → Rose (faults self.old) (faults self.new)) };
+        ensures ok { OnOk result (Wrote (output self.old).text bytes.now (output self.new).text) }
+        ensures front { IfErr result (λ e. e ≡ SinkFault.Failed
+            → ((n : ℕ) × Wrote (output self.old).text (take n bytes.now) (output self.new).text)) }
+        ensures memory { IfErr result (λ e. e ≡ SinkFault.Memory
+            → (output self.new).text ≡ (output self.old).text) }
+        ensures faults { (output self.new).faults ≡ faults_after (output self.old).faults result }
+        ensures rising { (output self.old).faults ≤ (output self.new).faults };
 }

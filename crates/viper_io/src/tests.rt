@@ -1,5 +1,5 @@
-ghost use Rattle.std.specs.Prelude.{◌≡◌, ◌≢◌, IfErr};
-ghost use Rattle.viper_io.specs.Causes.{Rose};
+ghost use Rattle.std.specs.Prelude.{◌≡◌, ◌++◌, IfErr};
+ghost use Rattle.viper_io.specs.Causes.{failed_fetch, longs_after, faults_after};
 
 use crate::{
     FetchFault, FileStore, OutSink, Page, Shelf, Sink, SinkFault, Store, SurePage, SureShelf,
@@ -13,8 +13,9 @@ const FILE: &str = "viper_io_bounds_test.txt";
 
 /// How many bytes a name holds, by a caller that knows of the store what its trait says.
 fn size_of<S: Store>(store: &mut S, alloc: Global, name: &str) -> Result<usize, FetchFault>
-    ensures failed { IfErr result (λ e. e ≡ FetchFault.Failed → S.failures store.new ≢ S.failures store.old) }
-    ensures long { IfErr result (λ e. e ≡ FetchFault.Long → Rose (S.longs store.old) (S.longs store.new)) }
+    ensures failures { (S.stock store.new).failures
+        ≡ (S.stock store.old).failures ++ failed_fetch name.now result }
+    ensures longs { (S.stock store.new).longs ≡ longs_after (S.stock store.old).longs result }
 {
     let bytes = store.fetch(alloc, name, 5)?;
     Ok(bytes.len())
@@ -23,8 +24,9 @@ fn size_of<S: Store>(store: &mut S, alloc: Global, name: &str) -> Result<usize, 
 /// Puts a text, and says how many bytes that is, by a caller that knows of the sink what its trait
 /// says.
 fn put_text<K: Sink>(sink: &mut K, text: &str) -> Result<usize, SinkFault>
-    ensures failed { IfErr result (λ e. e ≡ SinkFault.Failed → Rose (K.faults sink.old) (K.faults sink.new)) }
-    ensures memory { IfErr result (λ e. e ≡ SinkFault.Memory → K.put_so_far sink.new ≡ K.put_so_far sink.old) }
+    ensures faults { (K.output sink.new).faults ≡ faults_after (K.output sink.old).faults result }
+    ensures memory { IfErr result (λ e. e ≡ SinkFault.Memory
+        → (K.output sink.new).text ≡ (K.output sink.old).text) }
 {
     sink.put(text.as_bytes())?;
     Ok(text.len())

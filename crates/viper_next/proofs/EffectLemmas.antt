@@ -1,7 +1,9 @@
 -- What a step that goes on passes on.
 use Rattle.std.proofs.Common.{◌≡◌, ℕ, Bool, true, false, not, ◌&&◌, ◌-◌, ◌^◌, ◌==◌, cond, Some, None, Ok, refl, inl, inr, arith}
 use Rattle.std.proofs.lemmas.Bool.Decides.{nat_tests}
-use Rattle.viper_word.proofs.Tests.{chosen, bool_cases}
+use Rattle.viper_word.proofs.Booleans.{chosen}
+use Rattle.std.proofs.lemmas.Bool.{cases_Bool}
+use Rattle.viper_word.specs.declared.profile.Profile.{Profile}
 use Rattle.viper_word.specs.Fields.{Fields, is_illegal, is_store, is_output, has_address}
 use Rattle.viper_word.specs.Machine.{State, current, address, is_lawful, is_skipped, executed, step, is_performed, address_if, store_address, output_address}
 use Rattle.viper_next.specs.Effects.{effect_of_step, effect_at}
@@ -12,9 +14,9 @@ record Went (i : Fields) (s : State) : Type 0 where
   legal : is_illegal i ≡ false
   lawful : is_skipped i s.b ≡ false → (has_address i && not (is_lawful (address i s))) ≡ false
 
-executed_went : (i : Fields) (s t : State) (answer : ℕ) → (s.p == 2 ^ 20 - 1) ≡ false → executed i s answer ≡ Ok t → Went i s
+executed_went : (profile : Profile) (i : Fields) (s t : State) (answer : ℕ) → (s.p == 2 ^ 20 - 1) ≡ false → executed profile i s answer ≡ Ok t → Went i s
 unfolding executed
-executed_went i s t answer inside e =
+executed_went profile i s t answer inside e =
     elim (chosen (is_illegal i) _ _ _ e) [
       | inl illegal ↦ let stops = illegal.1 in cc
       | inr legal ↦
@@ -28,12 +30,12 @@ executed_went i s t answer inside e =
           ]
     ]
 
-went : (s t : State) (answer : ℕ) → step s answer ≡ Ok t → Went (current s) s
+went : (profile : Profile) (s t : State) (answer : ℕ) → step profile s answer ≡ Ok t → Went (current s) s
 unfolding step
-went s t answer e =
+went profile s t answer e =
     elim (chosen (s.p == 2 ^ 20 - 1) _ _ _ e) [
       | inl last ↦ let stops = last.1 in cc
-      | inr more ↦ executed_went (current s) s t answer more.0 more.1
+      | inr more ↦ executed_went profile (current s) s t answer more.0 more.1
     ]
 
 -- a legal output or store has an address, and no jump is one
@@ -68,16 +70,16 @@ the_address such s runs went here has e =
     rw (runs, went.inside, went.legal, here, has, e, lawful) refl
 
 -- a step that goes on passes on what its instruction does
-pub effect_known : (s t : State) (answer : ℕ) → s.stop ≡ false → step s answer ≡ Ok t → effect_at (current s) s ≡ effect_of_step s (Ok t)
+pub effect_known : (profile : Profile) (s t : State) (answer : ℕ) → s.stop ≡ false → step profile s answer ≡ Ok t → effect_at (current s) s ≡ effect_of_step s (Ok t)
 unfolding effect_of_step effect_at store_address output_address
-effect_known s t answer runs e =
-    let passed = went s t answer e in
-    elim (bool_cases (is_store (current s))) [
+effect_known profile s t answer runs e =
+    let passed = went profile s t answer e in
+    elim (cases_Bool (is_store (current s))) [
       | inl store ↦
           let facts = store_has (current s) s.b passed.legal store in
           rw (the_address is_store s runs passed facts.1 facts.0 store, store) refl
       | inr other ↦
-          elim (bool_cases (is_output (current s))) [
+          elim (cases_Bool (is_output (current s))) [
             | inl output ↦
                 let facts = output_has (current s) s.b passed.legal output in
                 rw (no_address is_store s other, the_address is_output s runs passed facts.1 facts.0 output, other, output) refl

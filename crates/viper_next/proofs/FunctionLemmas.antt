@@ -1,26 +1,32 @@
--- The functions of legal words, and what they look at.
-use Rattle.std.proofs.Common.{◌≡◌, ℕ, Bool, true, false, ◌<◌, ◌==◌, refl, ap, inl, inr, arith}
-use Rattle.std.proofs.lemmas.Bool.Decides.{nat_tests}
-use Rattle.viper_word.proofs.Tests.{both, bool_cases, test_equal}
-use Rattle.viper_word.specs.Fields.{Fields, is_illegal, is_function, is_shift}
-use Rattle.viper_word.specs.Machine.{computed}
+-- The functions of legal words, by their codes.
+use Rattle.std.proofs.Common.{◌≡◌, ℕ, Bool, false, ◌==◌, refl}
+use Rattle.viper_word.specs.declared.profile.Profile.{Profile}
+use Rattle.viper_word.specs.Fields.{Fields}
+use Rattle.viper_word.specs.Machine.{applied, computed, shifted}
+use Rattle.viper_decode.specs.declared.instructions.Function.{Function}
+use Rattle.viper_decode.specs.declared.instructions.Function.TheVariants.{Neg, Call, Inp, Read, Addb, Adds, Subb, Subs, Xor, And, Nor, Andn}
+use Rattle.viper_decode.specs.declared.instructions.Shift.{Shift}
+use Rattle.viper_decode.specs.Instructions.{code_of, shift_code}
 
--- the function of a legal word is one of the thirteen
-pub legal_function : (i : Fields) → is_illegal i ≡ false → is_function i ≡ true → i.f < 13
-unfolding is_illegal
-legal_function i legal function = grind (arith, nat_tests)
+-- no function but SHIFT has the code 12
+below_shift : (f : Function) → (code_of f == 12) ≡ false
+below_shift Neg = refl
+below_shift Call = refl
+below_shift Inp = refl
+below_shift Read = refl
+below_shift Addb = refl
+below_shift Adds = refl
+below_shift Subb = refl
+below_shift Subs = refl
+below_shift Xor = refl
+below_shift And = refl
+below_shift Nor = refl
+below_shift Andn = refl
 
--- a shift doesn't look at the operand
-shift_alone : (i : Fields) (r m n : ℕ) (b : Bool) → is_shift i ≡ true → computed i r m b ≡ computed i r n b
+pub applied_is : (profile : Profile) (i : Fields) (f : Function) (r m : ℕ) (b : Bool) → i.f ≡ code_of f → computed profile i r m b ≡ applied profile (code_of f) r m b
 unfolding computed
-shift_alone i r m n b shift =
-    let twelve : i.f ≡ 12 = test_equal i.f 12 (both (is_function i) (i.f == 12) shift).1 in
-    rw twelve refl
+applied_is profile i f r m b e = rw (e, below_shift f) refl
 
--- so functions agree where the operands of all others do
-pub computed_alike : (i : Fields) (r m n : ℕ) (b : Bool) → (is_shift i ≡ false → m ≡ n) → computed i r m b ≡ computed i r n b
-computed_alike i r m n b same =
-    elim (bool_cases (is_shift i)) [
-      | inl shift ↦ shift_alone i r m n b shift
-      | inr other ↦ ap (λ (k : ℕ). computed i r k b) (same other)
-    ]
+pub shifted_is : (profile : Profile) (i : Fields) (k : Shift) (r m : ℕ) (b : Bool) → i.f ≡ 12 → i.m ≡ shift_code k → computed profile i r m b ≡ shifted profile (shift_code k) r b
+unfolding computed
+shifted_is profile i k r m b e g = rw (e, g) refl

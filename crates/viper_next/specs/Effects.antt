@@ -1,8 +1,9 @@
 -- What one step tells those outside.
 use Rattle.std.specs.Prelude.{ℕ, if◌then◌else◌, Option, Some, None, Result, Ok, Err}
 use Rattle.viper_word.specs.declared.cause.Cause.{Cause}
+use Rattle.viper_word.specs.declared.profile.Profile.{Profile}
 use Rattle.viper_word.specs.Fields.{Fields, is_store, is_output}
-use Rattle.viper_word.specs.Machine.{State, step, register, address, store_address, output_address, given}
+use Rattle.viper_word.specs.Machine.{State, Computed, computed, step, register, address, operand, store_address, output_address, given}
 use Rattle.viper_next.specs.declared.effect.Effect.{Effect}
 use Rattle.viper_next.specs.declared.effect.Effect.TheVariants.{Quiet, Wrote, Out, Stopped}
 
@@ -18,8 +19,8 @@ effect_of_step s (Ok _) = passed_on (store_address s) (output_address s) (given 
 effect_of_step s (Err cause) = Stopped cause
 
 -- a stopped machine is quiet
-unfoldable pub effect_of : State → ℕ → Effect
-effect_of s answer = if s.stop then Quiet else effect_of_step s (step s answer)
+unfoldable pub effect_of : Profile → State → ℕ → Effect
+effect_of profile s answer = if s.stop then Quiet else effect_of_step s (step profile s answer)
 
 -- what an instruction of these numbers passes on, where it doesn't stop
 unfoldable pub effect_at : Fields → State → Effect
@@ -27,3 +28,7 @@ effect_at i s =
     if is_store i then Wrote (address i s) (record { 0 = register s i.r })
     else if is_output i then Out (address i s) (record { 0 = register s i.r })
     else Quiet
+
+-- what the function of an instruction comes to
+abbrev pub outcome_of : Profile → Fields → State → ℕ → Option Computed
+outcome_of profile i s answer = computed profile i (register s i.r) (operand i s answer) s.b

@@ -1,3 +1,4 @@
 pub mod Effects
 pub mod Fresh
 pub mod Answers
+pub mod Profiled

@@ -1,15 +1,14 @@
-ghost use Rattle.std.specs.Prelude.{◌≡◌, ◌<◌, option_map};
-ghost use Rattle.viper_word.specs.Machine.{computed, shifted, compared, kind_of};
+ghost use Rattle.std.specs.Prelude.{◌≡◌, ◌||◌, option_map, if◌then◌else◌};
+ghost use Rattle.viper_word.specs.Signed.{compares};
+ghost use Rattle.viper_word.specs.Machine.{applied, negated, shifted};
+ghost use Rattle.viper_decode.specs.Instructions.{code_of, shift_code};
 
 use std::marker::Model;
-use viper_decode::{Fields, function, shift_kind};
+use viper_decode::{Function, Shift};
 use viper_word::{
-    Kind, Word, add_exact, add_wrap, compare, left_through, right_through, sar, shl_exact,
+    Kind, Profile, Word, add_exact, add_wrap, compare, left_through, right_through, sar, shl_exact,
     sub_exact, sub_wrap,
 };
-
-/// How many kinds of comparison there are. Codes from here on have them again, and join the old B.
-const KINDS: u8 = 8;
 
 /// The result of a function, and B after it.
 #[derive(Drop)]
@@ -26,36 +25,39 @@ impl Model for Computed {
     ghost view = { λ e. record { value = e.value.0; b = e.b } };
 }
 
-/// What the function of an instruction comes to, on the value `r` of its register, the operand `m`
-/// and B: the rows are those of docs/MACHINE.md, "Functions". None exactly where the signed result
-/// isn't a word's, which stops the machine.
-#[tactic(auto, unfolding(viper_word::specs::Machine::computed))]
-pub(crate) fn compute(i: Fields, r: Word, m: Word, b: bool) -> Option<Computed>
-    requires { i.f < 13 }
-    ensures { result ≡ computed i r.0 m.0 b }
+/// What a function comes to in the profile, on the word `r`, the operand `m` and B: the rows are those
+/// of docs/MACHINE.md, "Functions". None exactly where the signed result isn't a word's, which stops
+/// the machine.
+#[tactic(auto, unfolding(viper_word::specs::Machine::applied))]
+pub(crate) fn apply(
+    profile: Profile,
+    function: Function,
+    r: Word,
+    m: Word,
+    b: bool,
+) -> Option<Computed>
+    ensures { result ≡ applied profile (code_of function) r.0 m.0 b }
 {
     macro_rules! functions {
         ($($name:ident => $outcome:expr,)*) => {
-            match i.f {
-                $(function::$name => $outcome,)*
-                _ => unreachable!(),
+            match function {
+                $(Function::$name => $outcome,)*
             }
         };
     }
     functions! {
-        NEG => keeps(sub_wrap(Word(0), m).0, b),
-        CALL => keeps(m, b),
-        INP => keeps(m, b),
-        READ => keeps(m, b),
-        ADDB => changes(add_wrap(r, m)),
-        ADDS => exact(add_exact(r, m), b),
-        SUBB => changes(sub_wrap(r, m)),
-        SUBS => exact(sub_exact(r, m), b),
-        XOR => keeps(Word(r.0 ^ m.0), b),
-        AND => keeps(Word(r.0 & m.0), b),
-        NOR => keeps(Word(!(r.0 | m.0)), b),
-        ANDN => keeps(Word(r.0 & !m.0), b),
-        SHIFT => shift(i.m, r, b),
+        Neg => negate(profile, m, b),
+        Call => keeps(m, b),
+        Inp => keeps(m, b),
+        Read => keeps(m, b),
+        Addb => changes(add_wrap(r, m)),
+        Adds => exact(add_exact(r, m), b),
+        Subb => changes(sub_wrap(r, m)),
+        Subs => exact(sub_exact(r, m), b),
+        Xor => keeps(Word(r.0 ^ m.0), b),
+        And => keeps(Word(r.0 & m.0), b),
+        Nor => keeps(Word(!(r.0 | m.0)), b),
+        Andn => keeps(Word(r.0 & !m.0), b),
     }
 }
 
@@ -83,42 +85,40 @@ fn exact(value: Option<Word>, b: bool) -> Option<Computed>
     Some(Computed { value: value?, b })
 }
 
+/// Zero less the operand. Profile 1 wraps it to a word; in profile 2 None comes exactly where no word
+/// has it.
+#[tactic(auto, unfolding(viper_word::specs::Machine::negated))]
+fn negate(profile: Profile, m: Word, b: bool) -> Option<Computed>
+    ensures { result ≡ negated profile m.0 b }
+{
+    match profile {
+        Profile::One => keeps(sub_wrap(Word(0), m).0, b),
+        Profile::Two => exact(sub_exact(Word(0), m), b),
+    }
+}
+
 /// A shift by one place: arithmetic right, right through B, left with a zero, left through B. None
 /// exactly where the third changes the sign.
 #[tactic(auto, unfolding(viper_word::specs::Machine::shifted))]
-fn shift(kind: u8, r: Word, b: bool) -> Option<Computed>
-    ensures { result ≡ shifted kind r.0 b }
+pub(crate) fn shift(profile: Profile, kind: Shift, r: Word, b: bool) -> Option<Computed>
+    ensures { result ≡ shifted profile (shift_code kind) r.0 b }
 {
     match kind {
-        shift_kind::RIGHT => keeps(sar(r), b),
-        shift_kind::RIGHT_THROUGH_B => changes(right_through(r, b)),
-        shift_kind::LEFT => exact(shl_exact(r), b),
-        _ => changes(left_through(r, b)),
+        Shift::Right => match profile {
+            Profile::One => keeps(sar(r), b),
+            Profile::Two => keeps(sar(r), r.0 % 2 == 1),
+        },
+        Shift::RightThroughB => changes(right_through(r, b)),
+        Shift::Left => exact(shl_exact(r), b),
+        Shift::LeftThroughB => changes(left_through(r, b)),
     }
 }
 
-/// The comparison of a code: the rows are those of docs/MACHINE.md, "Comparisons".
-#[tactic(auto, unfolding(viper_word::specs::Machine::kind_of))]
-fn kind_of(code: u8) -> Kind
-    ensures { result ≡ kind_of code }
-{
-    match code {
-        0 => Kind::Lt,
-        1 => Kind::Ge,
-        2 => Kind::Eq,
-        3 => Kind::Ne,
-        4 => Kind::Le,
-        5 => Kind::Gt,
-        6 => Kind::Ult,
-        _ => Kind::Uge,
-    }
-}
-
-/// B after a comparison: codes from 8 on join the old B by OR.
+/// B after a comparison, which may join the old B by OR.
 #[tactic(auto, unfolding(viper_word::specs::Machine::compared))]
-pub(crate) fn compared(i: Fields, r: Word, m: Word, b: bool) -> bool
-    ensures { result ≡ compared i r.0 m.0 b }
+pub(crate) fn compared(joins: bool, kind: Kind, r: Word, m: Word, b: bool) -> bool
+    ensures { result ≡ (if joins then b || compares kind r.0 m.0 else compares kind r.0 m.0) }
 {
-    let holds = compare(kind_of(i.f % KINDS), r, m);
-    if i.f >= KINDS { b || holds } else { holds }
+    let holds = compare(kind, r, m);
+    if joins { b || holds } else { holds }
 }

@@ -9,7 +9,8 @@ use Rattle.std.proofs.lemmas.Bool.{eqb-true, false≢true}
 use Rattle.std.proofs.lemmas.Int.{ints, of_z-to_z, to_z-of_z, fits_signed_from_abs}
 use Rattle.std.proofs.lemmas.List.{append-nil, nil_from_length}
 use Rattle.std.proofs.lemmas.Option.{none-some}
-use Rattle.viper_word.proofs.Tests.{chosen, both, test_equal, bool_cases}
+use Rattle.viper_word.proofs.Booleans.{chosen, test_equal}
+use Rattle.std.proofs.lemmas.Bool.{and_parts, cases_Bool}
 use Rattle.viper_word.specs.Words.{least_signed, greatest_signed}
 use Rattle.memory_plan.specs.declared.fault.FirstFault.{FirstFault}
 use Rattle.memory_plan.specs.declared.fault.FirstFault.TheVariants.{Unbuilt, Memory}
@@ -32,14 +33,14 @@ unfolding is_value
 value_fits lo hi modulus residue small low h =
     elim (chosen (lo == hi) ((modulus == 0) && (residue == lo)) (int_lt (cast_signed w32 lo) (cast_signed w32 hi) && ((modulus == 1) && (residue == 0))) true h) [
       | inl one ↦
-          let parts = both (modulus == 0) (residue == lo) one.1 in
+          let parts = and_parts (modulus == 0) (residue == lo) one.1 in
           let same : lo ≡ hi = test_equal lo hi one.0 in
           let test : int_eq (cast_signed w32 lo) (cast_signed w32 hi) ≡ true = (Decides-int_eq (cast_signed w32 lo) (cast_signed w32 hi)).1 (ap (cast_signed w32) same) in
           let ends : cast_signed w32 lo ≡ cast_signed w32 hi = ap (cast_signed w32) same in
           (rw test (test_equal modulus 0 parts.0), rw test (test_equal residue lo parts.1 ∙ sym (of_z-to_z w32 lo small)), record { low = omega (arith, ints); order = omega (arith, ints, ends); high = omega (arith, ints) })
       | inr several ↦
-          let parts = both (int_lt (cast_signed w32 lo) (cast_signed w32 hi)) ((modulus == 1) && (residue == 0)) several.1 in
-          let numbers = both (modulus == 1) (residue == 0) parts.1 in
+          let parts = and_parts (int_lt (cast_signed w32 lo) (cast_signed w32 hi)) ((modulus == 1) && (residue == 0)) several.1 in
+          let numbers = and_parts (modulus == 1) (residue == 0) parts.1 in
           let below : cast_signed w32 lo <ℤ cast_signed w32 hi = is_below (cast_signed w32 lo) (cast_signed w32 hi) parts.0 in
           let test : int_eq (cast_signed w32 lo) (cast_signed w32 hi) ≡ false = is_other (cast_signed w32 lo) (cast_signed w32 hi) below in
           (rw test (test_equal modulus 1 numbers.0), rw test (test_equal residue 0 numbers.1), record { low = omega (arith, ints); order = omega (arith, ints, below); high = omega (arith, ints) })
@@ -49,7 +50,7 @@ value_fits lo hi modulus residue small low h =
     is_below a b t = grind (arith, ints)
 
     is_other : (a b : ℤ) → a <ℤ b → int_eq a b ≡ false
-    is_other a b lt = elim (bool_cases (int_eq a b)) [
+    is_other a b lt = elim (cases_Bool (int_eq a b)) [
       | inl yes_ ↦ let same : a ≡ b = (Decides-int_eq a b).0 yes_ in absurd (omega (arith, ints))
       | inr no_ ↦ no_
     ]
@@ -91,10 +92,10 @@ unsigned_below : (z : ℤ) → least_signed ≤ℤ z → z ≤ℤ greatest_signe
 unsigned_below z low high = omega (arith, ints)
 
 modulus_below : (v : Interval) → modulus_of v < 2 ^ 32
-modulus_below v = elim (bool_cases (int_eq v.lo v.hi)) [ inl t ↦ rw t (lit< tt) | inr t ↦ rw t (lit< tt) ]
+modulus_below v = elim (cases_Bool (int_eq v.lo v.hi)) [ inl t ↦ rw t (lit< tt) | inr t ↦ rw t (lit< tt) ]
 
 residue_below : (v : Interval) → IsInterval v → residue_of v < 2 ^ 32
-residue_below v fits = elim (bool_cases (int_eq v.lo v.hi)) [
+residue_below v fits = elim (cases_Bool (int_eq v.lo v.hi)) [
   | inl t ↦ rw t (unsigned_below v.lo fits.low (omega (arith, ints, fits.order, fits.high)))
   | inr t ↦ rw t (lit< tt)
 ]
@@ -104,7 +105,7 @@ signed_back z low high = omega (arith, ints)
 
 value_is_one : (v : Interval) → IsInterval v → is_value (cast_unsigned w32 v.lo) (cast_unsigned w32 v.hi) (modulus_of v) (residue_of v) ≡ true
 unfolding is_value
-value_is_one v fits = elim (bool_cases (int_eq v.lo v.hi)) [
+value_is_one v fits = elim (cases_Bool (int_eq v.lo v.hi)) [
   | inl t ↦
       let same : v.lo ≡ v.hi = (Decides-int_eq v.lo v.hi).0 t in
       let bits : (cast_unsigned w32 v.lo == cast_unsigned w32 v.hi) ≡ true = (Decides-eqb (cast_unsigned w32 v.lo) (cast_unsigned w32 v.hi)).1 (ap (cast_unsigned w32) same) in
@@ -118,7 +119,7 @@ value_is_one v fits = elim (bool_cases (int_eq v.lo v.hi)) [
 ]
   where
     other_bits : (v : Interval) → IsInterval v → v.lo ≤ℤ greatest_signed → least_signed ≤ℤ v.hi → int_eq v.lo v.hi ≡ false → (cast_unsigned w32 v.lo == cast_unsigned w32 v.hi) ≡ false
-    other_bits v fits high_lo low_hi t = elim (bool_cases (cast_unsigned w32 v.lo == cast_unsigned w32 v.hi)) [
+    other_bits v fits high_lo low_hi t = elim (cases_Bool (cast_unsigned w32 v.lo == cast_unsigned w32 v.hi)) [
       | inl same ↦
           let bits : cast_unsigned w32 v.lo ≡ cast_unsigned w32 v.hi = test_equal (cast_unsigned w32 v.lo) (cast_unsigned w32 v.hi) same in
           let ends : v.lo ≡ v.hi = sym (signed_back v.lo fits.low high_lo) ∙ ap (cast_signed w32) bits ∙ signed_back v.hi low_hi fits.high in
@@ -361,8 +362,8 @@ counted_takes count bytes c few fits e =
         let made : Certificate = record { starts = s.0; nodes = ns.0 } in
         let g = guard_passes (length ns.1 == 0) made c e2 in
         let nothing : ns.1 ≡ [] = nil_from_length ns.1 (eqb-true _ _ g.0) in
-        let both = (Takes-then bytes (indices_bytes s.0) s.1 (flat_map node_bytes ns.0) ns.1 t0.0 t1.0).parts in
-        let whole : bytes ≡ indices_bytes s.0 ++ flat_map node_bytes ns.0 = both ∙ ap (λ (r : List ℕ). (indices_bytes s.0 ++ flat_map node_bytes ns.0) ++ r) nothing ∙ append-nil (indices_bytes s.0 ++ flat_map node_bytes ns.0) in
+        let and_parts = (Takes-then bytes (indices_bytes s.0) s.1 (flat_map node_bytes ns.0) ns.1 t0.0 t1.0).parts in
+        let whole : bytes ≡ indices_bytes s.0 ++ flat_map node_bytes ns.0 = and_parts ∙ ap (λ (r : List ℕ). (indices_bytes s.0 ++ flat_map node_bytes ns.0) ++ r) nothing ∙ append-nil (indices_bytes s.0 ++ flat_map node_bytes ns.0) in
         let limits : IsWithinLimits made = record {
           few_starts = t0.1;
           starts = rw t1.1 t0.2;

@@ -3,7 +3,7 @@ use Rattle.std.proofs.Common.{◌≡◌, ℕ, zero, suc, ◌+◌, ◌<◌, List,
 use Rattle.std.specs.Prelude.{All}
 use Rattle.std.proofs.lemmas.List.Elements.{All-from_recursion}
 use Rattle.std.proofs.lemmas.Option.{none-some, same_Some}
-use Rattle.viper_word.proofs.Tests.{chosen}
+use Rattle.viper_word.proofs.Booleans.{chosen}
 use Rattle.memory_plan.specs.Plans.{PlanLines}
 use Rattle.memory_plan.specs.declared.start.Start.{Start}
 use Rattle.viper_top.specs.declared.abs_step.Cond.{Cond}
@@ -11,7 +11,8 @@ use Rattle.viper_top.specs.declared.abs_step.Cond.TheVariants.{H2}
 use Rattle.viper_top.specs.declared.cert_checker.Place.TheVariants as place
 use Rattle.viper_top.specs.Certificates.{CertNode, Certificate}
 use Rattle.viper_top.specs.Conditions.{node_fault, is_start_covered}
-use Rattle.viper_top.specs.Verdicts.{Refusal, first_start, first_node, refused_at, or_else, first_failure}
+use Rattle.viper_top.specs.declared.cert_checker.Refusal.{Refusal}
+use Rattle.viper_top.specs.Verdicts.{first_start, first_node, refused_at, or_else, first_failure}
 use Rattle.viper_top.specs.Claims.{FailsFirst}
 use Rattle.viper_top.proofs.Yes.{no_start}
 

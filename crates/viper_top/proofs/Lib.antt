@@ -1,4 +1,3 @@
-pub mod Failures
 pub mod CertFields
 pub mod CertLaws
 pub mod CertLoop
@@ -9,7 +8,11 @@ pub mod Steps
 pub mod WholeRuns
 pub mod Yes
 pub mod FirstFailure
-pub mod Done
+pub mod Exact
 pub mod Unique
-pub mod Endings
-pub mod Stages
+pub mod Growth
+pub mod Walking
+pub mod Outcomes
+pub mod Apart
+pub mod Headlines
+pub mod RunHeadline

@@ -2,7 +2,7 @@
 use Rattle.std.proofs.Common.{◌≡◌, ◌≢◌, ℕ, ◌-◌, ◌^◌, ◌==◌, ◌&&◌, not, List, [], ◌∷◌, Option, Some, None, refl, sym, ap, ◌∙◌, arith, cond, true, false, slice_get, inl, inr}
 use Rattle.std.proofs.lemmas.Bool.{false≢true}
 use Rattle.std.proofs.lemmas.Option.{none-some, same_Some}
-use Rattle.viper_word.proofs.Tests.{chosen, test_equal, cond_some}
+use Rattle.viper_word.proofs.Booleans.{chosen, test_equal, cond_some}
 use Rattle.memory_plan.specs.Plans.{PlanLines, in_code, is_marker, word_at, code_word}
 use Rattle.memory_plan.specs.Reads.{read_of}
 use Rattle.memory_plan.specs.declared.literal_read.LiteralRead.{LiteralRead}

@@ -2,7 +2,8 @@
 use Rattle.std.proofs.Common.{◌≡◌, ℕ, zero, suc, Bool, true, false, ◌+◌, ◌-◌, ◌^◌, ◌<◌, ◌==◌, nat_lt, refl, ◌∙◌, ap, arith, cond, slice_index, Ok, Err}
 use Rattle.std.proofs.lemmas.Bool.Decides.{nat_tests}
 use Rattle.viper_word.specs.Fields.{Fields, fields_of, is_illegal}
-use Rattle.viper_word.specs.Machine.{State, next, step, executed, performed, finished, written, computed, current, ended}
+use Rattle.viper_word.specs.declared.profile.Profile.{Profile}
+use Rattle.viper_word.specs.Machine.{State, next, step, executed, performed, finished, written, applied, computed, current, ended}
 use Rattle.viper_word.specs.declared.cause.Cause.TheVariants.{End}
 use Rattle.memory_plan.specs.FirstForms.{ReadsLiteral}
 use Rattle.memory_plan.specs.Reads.{read_of, destination_of}
@@ -39,13 +40,13 @@ same_fields r m d c f n m' c' f' e1 e2 e3 = rw (e1, e2, e3) refl
 fields_are : (i : Fields) → i.m ≡ 0 → i.c ≡ false → i.f ≡ 3 → i ≡ record { r = i.r; m = 0; d = i.d; c = false; f = 3; field = i.field }
 fields_are i em ec ef = same_fields i.r i.m i.d i.c i.f i.field 0 false 3 em ec ef
 
-read_executed : (s : State) (answer r d n : ℕ) → d < 4 → n < 2 ^ 20 → executed (record { r = r; m = 0; d = d; c = false; f = 3; field = n }) s answer ≡ Ok (after_by (destination_of d) n s)
-unfolding executed performed finished written computed is_illegal
-read_executed s answer r zero n small field = refl
-read_executed s answer r (suc zero) n small field = refl
-read_executed s answer r (suc (suc zero)) n small field = refl
-read_executed s answer r (suc (suc (suc zero))) n small field = rw (lawful n field) refl
-read_executed s answer r (suc (suc (suc (suc d)))) n small field = absurd (omega arith)
+read_executed : (profile : Profile) (s : State) (answer r d n : ℕ) → d < 4 → n < 2 ^ 20 → executed profile (record { r = r; m = 0; d = d; c = false; f = 3; field = n }) s answer ≡ Ok (after_by (destination_of d) n s)
+unfolding executed performed finished written computed applied is_illegal
+read_executed profile s answer r zero n small field = refl
+read_executed profile s answer r (suc zero) n small field = refl
+read_executed profile s answer r (suc (suc zero)) n small field = refl
+read_executed profile s answer r (suc (suc (suc zero))) n small field = rw (lawful n field) refl
+read_executed profile s answer r (suc (suc (suc (suc d)))) n small field = absurd (omega arith)
 
 not_last : (p : ℕ) → p < 2 ^ 20 - 1 → (p == 2 ^ 20 - 1) ≡ false
 not_last p lt = grind (arith, nat_tests)
@@ -54,20 +55,20 @@ field_of_small : (w : ℕ) → (fields_of w).field < 2 ^ 20
 unfolding fields_of
 field_of_small w = omega arith
 
-running_next : (s : State) (answer : ℕ) → s.stop ≡ false → next s answer ≡ ended s (step s answer)
+running_next : (profile : Profile) (s : State) (answer : ℕ) → s.stop ≡ false → next profile s answer ≡ ended s (step profile s answer)
 unfolding next
-running_next s answer runs = ap (λ (b : Bool). cond b s (ended s (step s answer))) runs
+running_next profile s answer runs = ap (λ (b : Bool). cond b s (ended s (step profile s answer))) runs
 
-inner_step : (s : State) (answer : ℕ) → s.p < 2 ^ 20 - 1 → step s answer ≡ executed (current s) s answer
+inner_step : (profile : Profile) (s : State) (answer : ℕ) → s.p < 2 ^ 20 - 1 → step profile s answer ≡ executed profile (current s) s answer
 unfolding step
-inner_step s answer inside = ap (λ (b : Bool). cond b (Err End) (executed (current s) s answer)) (not_last s.p inside)
+inner_step profile s answer inside = ap (λ (b : Bool). cond b (Err End) (executed profile (current s) s answer)) (not_last s.p inside)
 
-pub read_next : (s : State) (answer : ℕ) → s.stop ≡ false → s.p < 2 ^ 20 - 1 → ReadsLiteral (slice_index s.memory s.p)
-    → next s answer ≡ after_read (read_of (slice_index s.memory s.p)) s
+pub read_next : (profile : Profile) (s : State) (answer : ℕ) → s.stop ≡ false → s.p < 2 ^ 20 - 1 → ReadsLiteral (slice_index s.memory s.p)
+    → next profile s answer ≡ after_read (read_of (slice_index s.memory s.p)) s
 unfolding after_read read_of
-read_next s answer runs inside reads =
+read_next profile s answer runs inside reads =
     let i : Fields = fields_of (slice_index s.memory s.p) in
     let shape = fields_are i reads.m reads.c reads.f in
     let small : i.field < 2 ^ 20 = field_of_small (slice_index s.memory s.p) in
-    let done : executed i s answer ≡ Ok (after_by (destination_of i.d) i.field s) = ap (λ (j : Fields). executed j s answer) shape ∙ read_executed s answer i.r i.d i.field reads.d small in
-    running_next s answer runs ∙ ap (ended s) (inner_step s answer inside ∙ done)
+    let done : executed profile i s answer ≡ Ok (after_by (destination_of i.d) i.field s) = ap (λ (j : Fields). executed profile j s answer) shape ∙ read_executed profile s answer i.r i.d i.field reads.d small in
+    running_next profile s answer runs ∙ ap (ended s) (inner_step profile s answer inside ∙ done)

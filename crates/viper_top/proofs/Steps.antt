@@ -1,7 +1,7 @@
 -- One step from a state that meets a node's fact.
 use Rattle.std.proofs.Common.{◌≡◌, ℕ, ◌-◌, ◌<◌, ◌^◌, ◌==◌, ◌&&◌, not, List, Some, None, refl, sym, ap, ◌∙◌, arith, Bool, true, false, slice_index, ℤ, pos, if◌then◌else◌}
 use Rattle.std.proofs.lemmas.Int.{ints}
-use Rattle.viper_word.proofs.Tests.{both}
+use Rattle.std.proofs.lemmas.Bool.{and_parts}
 use Rattle.viper_word.specs.Words.{signed_value}
 use Rattle.viper_word.specs.Fields.{Fields, is_shift, is_input, is_output, is_store}
 use Rattle.viper_word.specs.Machine.{State, next, current, address, address_if, is_lawful, is_performed, wants, operand_address, store_address, output_address}
@@ -37,8 +37,8 @@ between_larger b c n h w = record { low = grind (arith, ints, w.low); high = gri
 pub meets_larger : (plan : PlanLines) (s : State) (f g : Fact) → includes g f ≡ true → Meets plan s f → Meets plan s g
 unfolding includes
 meets_larger plan s f g h m =
-    let outer = both (interval_includes g.a f.a && interval_includes g.x f.x) (interval_includes g.y f.y) h in
-    let inner = both (interval_includes g.a f.a) (interval_includes g.x f.x) outer.0 in
+    let outer = and_parts (interval_includes g.a f.a && interval_includes g.x f.x) (interval_includes g.y f.y) h in
+    let inner = and_parts (interval_includes g.a f.a) (interval_includes g.x f.x) outer.0 in
     record {
       kept = m.kept;
       a = between_larger g.a f.a (signed_value s.a) inner.0 m.a;
@@ -112,7 +112,7 @@ none_if false m shift such lawful at e = refl
 no_address : (is_such : Fields → Bool) (s : State) → (current s).m ≡ 0 → address_if is_such s ≡ None
 no_address is_such s e = none_if (is_performed s) (current s).m (is_shift (current s)) (is_such (current s)) (is_lawful (address (current s) s)) (address (current s) s) e
 
-read_tidy : (plan : PlanLines) (s : State) (answer : ℕ) → ReadsLiteral (slice_index s.memory s.p) → (next s answer).stop ≡ false → IsTidy plan s answer
+read_tidy : (plan : PlanLines) (s : State) (answer : ℕ) → ReadsLiteral (slice_index s.memory s.p) → (next plan.profile s answer).stop ≡ false → IsTidy plan s answer
 unfolding operand_address wants store_address output_address
 read_tidy plan s answer reads runs = record {
   running = runs;
@@ -127,9 +127,9 @@ pub record Covered (plan : PlanLines) (nodes : List CertNode) (n : CertNode) (s 
   pub tidy : IsTidy plan s answer
   pub next_node : CertNode
   pub stands : Stands nodes next_node
-  pub meets : Meets plan (next s answer) next_node.fact
-  pub place : (next s answer).p ≡ next_node.address
-  pub fall : is_marker plan (next s answer).p ≡ false → falls n.rank next_node.rank ≡ true
+  pub meets : Meets plan (next plan.profile s answer) next_node.fact
+  pub place : (next plan.profile s answer).p ≡ next_node.address
+  pub fall : is_marker plan (next plan.profile s answer).p ≡ false → falls n.rank next_node.rank ≡ true
 
 pub step_covered : (plan : PlanLines) (nodes : List CertNode) (n : CertNode) (s : State) (answer : ℕ) → OnlyReads plan → Leads plan nodes n → Meets plan s n.fact → s.p ≡ n.address
     → Covered plan nodes n s answer
@@ -139,7 +139,7 @@ step_covered plan nodes n s answer only leads meets here =
     let reads : ReadsLiteral w = only.reads n.address w leads.is in
     let reads_here : ReadsLiteral (slice_index s.memory s.p) = rw word_is reads in
     let inside : s.p < 2 ^ 20 - 1 = let last = leads.last in let p = meets.kept.words.p in omega arith in
-    let step : next s answer ≡ after_read (read_of w) s = rw word_is at (read_next s answer meets.kept.running inside reads_here) in
+    let step : next plan.profile s answer ≡ after_read (read_of w) s = rw word_is at (read_next plan.profile s answer meets.kept.running inside reads_here) in
     let met : Meets plan (after_read (read_of w) s) (post (read_of w) n.fact) = read_meets plan s n.fact (read_of w) (field_small w) inside meets in
     let larger : Meets plan (after_read (read_of w) s) leads.next.fact = meets_larger plan (after_read (read_of w) s) (post (read_of w) n.fact) leads.next.fact leads.included met in
     let goes : (after_read (read_of w) s).p ≡ target (read_of w) n.address = target_reached s (read_of w) ∙ ap (target (read_of w)) here in

@@ -1,16 +1,16 @@
 -- Whole runs: each state meets the fact of a node at its P, and ranks fall until a marker is met.
-use Rattle.std.proofs.Common.{◌≡◌, ℕ, zero, suc, ◌+◌, ◌<◌, ◌≤◌, ◌==◌, ◌&&◌, List, [], ◌∷◌, Option, Some, None, refl, sym, ◌∙◌, length, arith, Bool, true, false, slice_get, slice_index, get_or, inl, inr, ℤ, pos, negsuc, ◌≤ℤ◌, add-one, ◌||◌, max, unsigned_abs, map, if◌then◌else◌}
+use Rattle.std.proofs.Common.{◌≡◌, ℕ, zero, suc, ◌+◌, ◌<◌, ◌≤◌, ◌==◌, ◌&&◌, List, [], ◌∷◌, Option, Some, None, refl, sym, ◌∙◌, length, arith, Bool, true, false, slice_get, slice_index, get_or, inl, inr, ℤ, pos, negsuc, ◌+ℤ◌, ◌≤ℤ◌, add-one, ◌||◌, max, unsigned_abs, map, if◌then◌else◌}
 use Rattle.std.specs.List.{list_any, AllByRecursion}
 use Rattle.std.proofs.lemmas.Bool.Decides.{Decides-eqb}
 use Rattle.std.proofs.lemmas.Int.{ints}
 use Rattle.std.proofs.lemmas.List.Elements.{All-from_recursion}
 use Rattle.std.proofs.lemmas.Option.{none-some, same_Some, slice_get_within, get_or_from_slice_get}
-use Rattle.viper_word.proofs.Tests.{both, either, bool_cases}
-use Rattle.viper_word.proofs.Places.{one_before, within_has}
+use Rattle.std.proofs.lemmas.Bool.{and_parts, or_cases, cases_Bool}
+use Rattle.viper_word.proofs.Lists.{one_before, within_has}
 use Rattle.viper_word.specs.Words.{signed_value}
 use Rattle.viper_word.specs.Machine.{State, next}
 use Rattle.memory_plan.specs.declared.start.Start.{Start}
-use Rattle.memory_plan.specs.Ranges.{NumberRange, IsIn}
+use Rattle.viper_word.specs.Ranges.{NumberRange, IsIn}
 use Rattle.memory_plan.specs.Plans.{PlanLines, IsStart, is_marker}
 use Rattle.memory_plan.specs.Runs.{IsRun, MeetsMarker, AllSafe}
 use Rattle.viper_top.specs.declared.cert_checker.Bound.{Bound}
@@ -19,7 +19,7 @@ use Rattle.viper_top.specs.Facts.{IsBetween, Meets, includes, ends_of, start_fac
 use Rattle.viper_top.specs.Certificates.{CertNode, Certificate}
 use Rattle.viper_top.specs.Conditions.{falls, is_rank, covers_start, is_start_covered, Local}
 use Rattle.viper_top.specs.Verdicts.{raised, bound_at, bounds_of}
-use Rattle.viper_top.specs.Claims.{OnlyReads, Claimed, Holds}
+use Rattle.viper_top.specs.Claims.{OnlyReads, Claimed, Holds, IsAt, IsCarried}
 use Rattle.viper_top.proofs.Nodes.{Stands, Leads, node_leads}
 use Rattle.viper_top.proofs.Steps.{Covered, step_covered, meets_larger}
 
@@ -50,9 +50,9 @@ covering_if : (nodes : List CertNode) (start : Start) (j : ℕ) (js : List ℕ) 
     → (covers_start start o || list_any (λ i. covers_start start (slice_get nodes i)) js) ≡ true → Covering nodes start
 covering_if nodes start j js None e more h = more h
 covering_if nodes start j js (Some n) e more h =
-    elim (either ((n.address == start.at) && includes n.fact (start_fact start)) (list_any (λ i. covers_start start (slice_get nodes i)) js) h) [
+    elim (or_cases ((n.address == start.at) && includes n.fact (start_fact start)) (list_any (λ i. covers_start start (slice_get nodes i)) js) h) [
       | inl fits ↦
-          let parts = both (n.address == start.at) (includes n.fact (start_fact start)) fits in
+          let parts = and_parts (n.address == start.at) (includes n.fact (start_fact start)) fits in
           record { node = n; stands = record { place = j; there = e }; place = (Decides-eqb n.address start.at).0 parts.0; included = parts.1 }
       | inr other ↦ more other
     ]
@@ -92,7 +92,7 @@ record Goes (plan : PlanLines) (nodes : List CertNode) (n : CertNode) (t : State
   at : At plan nodes t
   fall : is_marker plan t.p ≡ false → falls n.rank at.node.rank ≡ true
 
-goes : (plan : PlanLines) (c : Certificate) → OnlyReads plan → Local plan c → (s t : State) (answer : ℕ) → (here : At plan c.nodes s) → t ≡ next s answer → Goes plan c.nodes here.node t
+goes : (plan : PlanLines) (c : Certificate) → OnlyReads plan → Local plan c → (s t : State) (answer : ℕ) → (here : At plan c.nodes s) → t ≡ next plan.profile s answer → Goes plan c.nodes here.node t
 goes plan c only local s t answer here is =
     let leads : Leads plan c.nodes here.node = stands_leads plan c local here.node here.stands in
     let covered : Covered plan c.nodes here.node s answer = step_covered plan c.nodes here.node s answer only leads here.meets here.place in
@@ -172,7 +172,7 @@ meets_soon plan c only local states answers run (suc fuel) k s h here small room
         → MeetsMarker plan states (k + 1) (k + suc fuel)
     on_from fuel k s h here small room t after more =
         let step = goes plan c only local s t (slice_index answers k) here (run.steps k s t h after) in
-        elim (bool_cases (is_marker plan t.p)) [
+        elim (cases_Bool (is_marker plan t.p)) [
           | inl m ↦ record { place = k + 1; state = t; there = after; from = omega arith; to = omega arith; marker = m }
           | inr m ↦
               let rest = more step.at (rank_falls here.node.rank step.at.node.rank fuel (step.fall m) small) (omega arith) in
@@ -219,4 +219,33 @@ pub local_suffices : (plan : PlanLines) (c : Certificate) → OnlyReads plan →
 local_suffices plan c only local = record {
   safe = all_safe plan c only local;
   markers = All-from_recursion (λ (e : ℕ × Bound). Claimed plan e.0 e.1) (bounds_of plan c) (claimed_each plan c only local plan.markers);
+}
+
+-- ---- facts and ranks over runs
+
+rank_one : (r : ℤ) → is_rank r ≡ true → pos 1 ≤ℤ r
+unfolding is_rank
+rank_one r h = grind (arith, ints)
+
+falls_one : (r q : ℤ) → falls r q ≡ true → (q +ℤ pos 1) ≤ℤ r
+unfolding falls
+falls_one r q h = grind (arith, ints)
+
+is_at : (plan : PlanLines) (c : Certificate) → Local plan c → (s : State) → (a : At plan c.nodes s) → IsAt plan c s a.node
+is_at plan c local s a = record {
+  number = a.stands.place;
+  there = a.stands.there;
+  place = a.place;
+  meets = a.meets;
+  rank = rank_one a.node.rank (stands_leads plan c local a.node a.stands).rank;
+}
+
+-- local conditions carry the facts and the ranks over every run
+pub local_carries : (plan : PlanLines) (c : Certificate) → OnlyReads plan → Local plan c → IsCarried plan c
+local_carries plan c only local = record {
+  start = λ s st. let a = start_at plan c local s st in (a.node, is_at plan c local s a);
+  step = λ s answer n here.
+      let from : At plan c.nodes s = record { node = n; stands = record { place = here.number; there = here.there }; meets = here.meets; place = here.place } in
+      let g = goes plan c only local s (next plan.profile s answer) answer from refl in
+      record { node = g.at.node; is_at = is_at plan c local (next plan.profile s answer) g.at; falls = λ h. falls_one n.rank g.at.node.rank (g.fall h) };
 }

@@ -3,7 +3,7 @@ use Rattle.std.proofs.Common.{◌≡◌, ℕ, ◌+◌, List, [], ◌∷◌, Opti
 use Rattle.std.specs.List.{AllByRecursion}
 use Rattle.std.proofs.lemmas.List.Elements.{All-from_recursion, recursion_from_All}
 use Rattle.std.proofs.lemmas.Option.{none-some}
-use Rattle.viper_word.proofs.Tests.{chosen}
+use Rattle.viper_word.proofs.Booleans.{chosen}
 use Rattle.memory_plan.specs.Plans.{PlanLines}
 use Rattle.memory_plan.specs.declared.start.Start.{Start}
 use Rattle.viper_top.specs.declared.abs_step.Cond.{Cond}
@@ -12,7 +12,8 @@ use Rattle.viper_top.specs.declared.cert_checker.Place.TheVariants as place
 use Rattle.viper_top.specs.declared.cert_checker.Bound.{Bound}
 use Rattle.viper_top.specs.Certificates.{CertNode, Certificate}
 use Rattle.viper_top.specs.Conditions.{node_fault, is_start_covered, Local}
-use Rattle.viper_top.specs.Verdicts.{Refusal, first_start, first_node, refused_at, or_else, first_failure, bounds_of, verdict_from, verdict_of}
+use Rattle.viper_top.specs.declared.cert_checker.Refusal.{Refusal}
+use Rattle.viper_top.specs.Verdicts.{first_start, first_node, refused_at, or_else, first_failure, bounds_of, verdict_from, verdict_of}
 
 -- ---- no start fails
 

@@ -8,6 +8,7 @@ use Rattle.viper_top.specs.declared.interval_dom.Interval.{Interval}
 use Rattle.viper_top.specs.declared.flag_relation.Fact.{Fact}
 use Rattle.viper_top.specs.declared.cert_format.Node.{Node}
 use Rattle.viper_top.specs.declared.cert_format.Cert.{Cert}
+use Rattle.viper_top.specs.declared.cert_format.TheConstants.{NODES, SUCCESSORS, RANK}
 
 -- a place of the program with its fact, the numbers of the nodes that it leads to, and its rank
 pub record CertNode : Type 0 where
@@ -47,14 +48,14 @@ pub record IsNode (count : ℕ) (n : CertNode) : Type 0 where
   pub a : IsInterval n.fact.a
   pub x : IsInterval n.fact.x
   pub y : IsInterval n.fact.y
-  pub few : length n.successors ≤ 65
+  pub few : length n.successors ≤ SUCCESSORS
   pub successors : AllByRecursion (IsBelow count) n.successors
-  pub rank : unsigned_abs n.rank ≤ 2 ^ 62
+  pub rank : unsigned_abs n.rank ≤ RANK
 
 pub record IsWithinLimits (c : Certificate) : Type 0 where
   pub few_starts : length c.starts ≤ 255
   pub starts : AllByRecursion (IsBelow (length c.nodes)) c.starts
-  pub few : length c.nodes ≤ 65536
+  pub few : length c.nodes ≤ NODES
   pub nodes : AllByRecursion (IsNode (length c.nodes)) c.nodes
 
 -- ---- bytes; numbers are big-endian

@@ -1,6 +1,7 @@
 -- What the bounds of a yes claim of all runs.
-use Rattle.std.specs.Prelude.{◌≡◌, ℕ, ◌<◌, List, Some, None, Ok, Err, true, false, All, slice_get}
-use Rattle.memory_plan.specs.Plans.{PlanLines, word_at}
+use Rattle.std.specs.Prelude.{◌≡◌, ℕ, ◌<◌, pos, ◌+ℤ◌, ◌≤ℤ◌, List, Some, None, Ok, Err, true, false, All, slice_get}
+use Rattle.viper_word.specs.Machine.{State, next}
+use Rattle.memory_plan.specs.Plans.{PlanLines, word_at, is_marker, IsStart}
 use Rattle.memory_plan.specs.FirstForms.{ReadsLiteral, IsPlainImage, IsFirstImage, IsFirstPlan}
 use Rattle.memory_plan.specs.Runs.{AllSafe, AllBounded, IsUnreached}
 use Rattle.memory_plan.specs.declared.start.Start.{Start}
@@ -11,8 +12,10 @@ use Rattle.viper_top.specs.declared.cert_checker.Place.TheVariants as place
 use Rattle.viper_top.specs.declared.cert_checker.Bound.{Bound}
 use Rattle.viper_top.specs.declared.cert_checker.Bound.TheVariants.{Within, Unreached}
 use Rattle.viper_top.specs.Certificates.{CertNode, Certificate, IsCertificate}
+use Rattle.viper_top.specs.Facts.{Meets}
 use Rattle.viper_top.specs.Conditions.{node_fault, is_start_covered, Local}
-use Rattle.viper_top.specs.Verdicts.{Refusal, bounds_of, verdict_of}
+use Rattle.viper_top.specs.declared.cert_checker.Refusal.{Refusal}
+use Rattle.viper_top.specs.Verdicts.{bounds_of, verdict_of}
 
 -- each word of the image is a literal read
 pub record OnlyReads (plan : PlanLines) : Type 0 where
@@ -32,6 +35,29 @@ pub record Holds (plan : PlanLines) (bounds : List (ℕ × Bound)) : Type 0 wher
 -- every length is safe and that each marker is bounded, or unreached.
 abbrev pub LocalSuffices : Type 0
 LocalSuffices = (plan : PlanLines) (c : Certificate) → OnlyReads plan → Local plan c → Holds plan (bounds_of plan c)
+
+-- the state is at the node: P is its address, the state meets its fact, and its rank is at least 1
+pub record IsAt (plan : PlanLines) (c : Certificate) (s : State) (n : CertNode) : Type 0 where
+  pub number : ℕ
+  pub there : slice_get c.nodes number ≡ Some n
+  pub place : s.p ≡ n.address
+  pub meets : Meets plan s n.fact
+  pub rank : pos 1 ≤ℤ n.rank
+
+-- after the node the state is at one too, whose rank is less by 1 at least, unless the state is at a marker
+pub record GoesOn (plan : PlanLines) (c : Certificate) (n : CertNode) (s : State) : Type 0 where
+  pub node : CertNode
+  pub is_at : IsAt plan c s node
+  pub falls : is_marker plan s.p ≡ false → (node.rank +ℤ pos 1) ≤ℤ n.rank
+
+-- each start state is at a node, and from each state at a node the next one goes on so
+pub record IsCarried (plan : PlanLines) (c : Certificate) : Type 0 where
+  pub start : (s : State) → IsStart plan s → (n : CertNode) × IsAt plan c s n
+  pub step : (s : State) (answer : ℕ) (n : CertNode) → IsAt plan c s n → GoesOn plan c n (next plan.profile s answer)
+
+-- Local conditions carry the facts and the ranks over every run.
+abbrev pub LocalCarries : Type 0
+LocalCarries = (plan : PlanLines) (c : Certificate) → OnlyReads plan → Local plan c → IsCarried plan c
 
 -- a text, or bytes, are those of one image, of one plan over it, and of one certificate
 pub record UniqueSpellings : Type 0 where

@@ -2,7 +2,7 @@
 use Rattle.std.specs.Prelude.{◌≡◌, ℕ, ℤ, pos, ◌≤ℤ◌, Bool, true, false, ◌&&◌, int_le, Some, slice_index}
 use Rattle.viper_word.specs.Words.{signed_value}
 use Rattle.viper_word.specs.Machine.{State, IsState}
-use Rattle.memory_plan.specs.Ranges.{NumberRange}
+use Rattle.viper_word.specs.Ranges.{NumberRange}
 use Rattle.memory_plan.specs.Plans.{PlanLines, in_code, word_at}
 use Rattle.memory_plan.specs.declared.start.Start.{Start}
 use Rattle.viper_top.specs.declared.interval_dom.Interval.{Interval}

@@ -1,4 +1,3 @@
-pub mod Seen
 pub mod Facts
 pub mod Certificates
 pub mod Reading
@@ -6,7 +5,13 @@ pub mod Conditions
 pub mod Verdicts
 pub mod Claims
 pub mod Texts
-pub mod CommandLine
-pub mod Answers
-pub mod AnswerStages
-pub mod Headline
+pub mod Endings
+pub mod Orders
+pub mod Contents
+pub mod Works
+pub mod Check
+pub mod Run
+pub mod Commands
+pub mod Promises
+pub mod Headlines
+pub mod Stages

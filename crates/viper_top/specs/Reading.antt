@@ -5,6 +5,7 @@ use Rattle.std.specs.Int.{Width, w8, w32, w64, byte_len, from_be_bytes, cast_sig
 use Rattle.memory_plan.specs.declared.fault.FirstFault.{FirstFault}
 use Rattle.memory_plan.specs.declared.fault.FirstFault.TheVariants.{Unbuilt, Memory}
 use Rattle.viper_top.specs.declared.interval_dom.Interval.{Interval}
+use Rattle.viper_top.specs.declared.cert_format.TheConstants.{NODES, SUCCESSORS, RANK}
 use Rattle.viper_top.specs.Certificates.{CertNode, Certificate, no_relations, heading}
 
 infixl 10 ◌>>=◌
@@ -66,7 +67,7 @@ unfoldable pub rank_at : List ℕ → Option (ℤ × List ℕ)
 rank_at bytes = do
   n ← number_at w64 bytes
   rest ← literal_at (0 ∷ []) n.1
-  if nat_le (unsigned_abs (cast_signed w64 n.0)) (2 ^ 62) then Some (cast_signed w64 n.0, rest) else None
+  if nat_le (unsigned_abs (cast_signed w64 n.0)) RANK then Some (cast_signed w64 n.0, rest) else None
 
 unfoldable pub node_at : ℕ → List ℕ → Option (CertNode × List ℕ)
 node_at count bytes = do
@@ -75,7 +76,7 @@ node_at count bytes = do
   x ← value_at a.1
   y ← value_at x.1
   relations ← literal_at no_relations y.1
-  successors ← indices_at 65 count relations
+  successors ← indices_at SUCCESSORS count relations
   rank ← rank_at successors.1
   if nat_lt address.0 (2 ^ 20) then Some (record { address = address.0; fact = record { a = a.0; x = x.0; y = y.0 }; successors = successors.0; rank = rank.0 }, rank.1) else None
 
@@ -91,4 +92,4 @@ unfoldable pub cert_of : List ℕ → Option Certificate
 cert_of bytes = do
   rest ← literal_at heading bytes
   count ← number_at w32 rest
-  if nat_lt 65536 count.0 then None else counted_at count.0 count.1
+  if nat_lt NODES count.0 then None else counted_at count.0 count.1

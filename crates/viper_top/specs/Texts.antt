@@ -8,7 +8,7 @@ use Rattle.viper_top.specs.declared.cert_checker.Place.{Place}
 use Rattle.viper_top.specs.declared.cert_checker.Place.TheVariants as place
 use Rattle.viper_top.specs.declared.cert_checker.Bound.{Bound}
 use Rattle.viper_top.specs.declared.cert_checker.Bound.TheVariants.{Within, Unreached}
-use Rattle.viper_top.specs.Verdicts.{Refusal}
+use Rattle.viper_top.specs.declared.cert_checker.Refusal.{Refusal}
 
 -- the bound of a marker's line, and the line's end
 abbrev pub bound_text : Bound → List ℕ

@@ -4,20 +4,14 @@ use Rattle.memory_plan.specs.Plans.{PlanLines}
 use Rattle.memory_plan.specs.declared.start.Start.{Start}
 use Rattle.viper_top.specs.declared.abs_step.Cond.{Cond}
 use Rattle.viper_top.specs.declared.abs_step.Cond.TheVariants.{H2}
-use Rattle.viper_top.specs.declared.cert_checker.Place.{Place}
 use Rattle.viper_top.specs.declared.cert_checker.Place.TheVariants as place
+use Rattle.viper_top.specs.declared.cert_checker.Refusal.{Refusal}
 use Rattle.viper_top.specs.declared.cert_checker.Bound.{Bound}
 use Rattle.viper_top.specs.declared.cert_checker.Bound.TheVariants.{Within, Unreached}
 use Rattle.viper_top.specs.declared.cert_checker.Verdict.{Verdict}
 use Rattle.viper_top.specs.declared.cert_checker.Verdict.TheVariants as verdict
 use Rattle.viper_top.specs.Certificates.{CertNode, Certificate}
 use Rattle.viper_top.specs.Conditions.{node_fault, is_start_covered}
-
--- a condition that fails, and where
-pub record Refusal : Type 0 where
-  pub place : Place
-  pub address : ℕ
-  pub cond : Cond
 
 -- the first start that no listed node covers, counted from k
 abbrev pub first_start : Certificate → ℕ → List Start → Option Refusal
@@ -66,4 +60,4 @@ verdict_of plan c = verdict_from (bounds_of plan c) (first_failure plan c)
 -- what the checker's answer says
 abbrev pub verdict_view : Verdict → Result (List (ℕ × Bound)) Refusal
 verdict_view (verdict.Yes bounds) = Ok bounds.items
-verdict_view (verdict.No p at c) = Err (record { place = p; address = at; cond = c })
+verdict_view (verdict.No r) = Err r

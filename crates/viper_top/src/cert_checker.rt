@@ -1,10 +1,7 @@
-ghost use Rattle.std.specs.Prelude.{◌≡◌, ◌<◌, ◌≤◌, ◌+◌, ◌-◌, ◌^◌, ℕ, List, map, option_map, length, slice_get, All, [], ◌∷◌, Some, None, Option, Result, Ok, Err, true, false, IfOk};
-ghost use Rattle.memory_plan.specs.Plans.{PlanLines, in_code, code_word};
-ghost use Rattle.memory_plan.specs.Reads.{read_of, IsLiteralRead};
-ghost use Rattle.viper_top.specs.Certificates.{node_view, nodes_view, cert_view, Certificate};
-ghost use Rattle.viper_top.specs.Conditions.{target, stands_at, successor, is_listed_at, is_repeated, are_distinct, marker_fault, edge_fault, read_fault, word_fault, node_fault, covers_start, is_start_covered, Local};
-ghost use Rattle.viper_top.specs.Verdicts.{Refusal, first_start, first_node, or_else, bound_at, bounds_of, verdict_of, verdict_view};
-ghost use Rattle.viper_top.specs.Claims.{OnlyReads, Holds};
+ghost use Rattle.std.specs.Prelude.{◌≡◌, ◌<◌, ◌-◌, ◌^◌, map, option_map, slice_get, [], Some, None, Option, Result, Ok, true, false, IfOk};
+ghost use Rattle.viper_top.specs.Certificates.{node_view, nodes_view, cert_view};
+ghost use Rattle.viper_top.specs.Conditions.{target, stands_at, successor, is_listed_at, is_repeated, are_distinct, edge_fault, read_fault, node_fault, covers_start, is_start_covered};
+ghost use Rattle.viper_top.specs.Verdicts.{first_start, first_node, bound_at, verdict_of, verdict_view};
 
 use crate::abs_step::{Cond, post, target};
 use crate::cert_format::{Cert, Node};
@@ -32,17 +29,21 @@ pub enum Bound {
     Unreached,
 }
 
+/// A condition that fails, its place, and the address of that start or node.
+#[derive(Clone, Copy, Debug, PartialEq, Eq)]
+pub struct Refusal {
+    pub place: Place,
+    pub address: Addr,
+    pub cond: Cond,
+}
+
 /// What the checker says (docs/METHOD.md, "Verdicts").
 #[derive(Debug, Drop)]
 pub enum Verdict {
     /// All local conditions hold. Each marker of the plan, in its order, with its bound.
     Yes(Vec<(Addr, Bound)>),
-    /// The first condition that fails, with its place and the address of that start or node.
-    No {
-        place: Place,
-        addr: Addr,
-        cond: Cond,
-    },
+    /// The first condition that fails.
+    No(Refusal),
 }
 
 /// The node of a number. None exactly where there is none.
@@ -154,9 +155,7 @@ fn check_node(plan: &Plan, nodes: &[Node], node: &Node) -> Option<Cond>
     let Some(word) = plan.code_word(node.addr) else {
         return Some(Cond::C1);
     };
-    let Some(read) = LiteralRead::of(word) else {
-        unreachable!()
-    };
+    let read = LiteralRead::taken_as(word);
     read_fault(plan, nodes, node, &read)
 }
 
@@ -179,23 +178,15 @@ fn is_start_covered(cert: &Cert, start: &Start) -> bool
         .any(|j| covers_start(start, node_at(&cert.nodes, *j)))
 }
 
-/// A failure: where, the address there, and the condition.
-#[derive(Clone, Copy)]
-struct Failure {
-    place: Place,
-    addr: Addr,
-    cond: Cond,
-}
-
 /// The first start that no listed node covers.
-fn first_start(cert: &Cert, starts: &[Start]) -> Option<Failure>
-    ensures { option_map (λ f. record { place = f.place; address = f.addr; cond = f.cond }) result ≡ first_start (cert_view cert.now) 0 starts.now }
+fn first_start(cert: &Cert, starts: &[Start]) -> Option<Refusal>
+    ensures { result ≡ first_start (cert_view cert.now) 0 starts.now }
 {
     for (i, start) in starts.iter().enumerate() {
         if !is_start_covered(cert, start) {
-            return Some(Failure {
+            return Some(Refusal {
                 place: Place::Start(i as u64),
-                addr: start.at,
+                address: start.at,
                 cond: Cond::H2,
             });
         }
@@ -204,14 +195,14 @@ fn first_start(cert: &Cert, starts: &[Start]) -> Option<Failure>
 }
 
 /// The first node at which a condition fails.
-fn first_node(plan: &Plan, cert: &Cert) -> Option<Failure>
-    ensures { option_map (λ f. record { place = f.place; address = f.addr; cond = f.cond }) result ≡ first_node plan.now (cert_view cert.now).nodes 0 (cert_view cert.now).nodes }
+fn first_node(plan: &Plan, cert: &Cert) -> Option<Refusal>
+    ensures { result ≡ first_node plan.now (cert_view cert.now).nodes 0 (cert_view cert.now).nodes }
 {
     for (i, node) in cert.nodes.iter().enumerate() {
         if let Some(cond) = check_node(plan, &cert.nodes, node) {
-            return Some(Failure {
+            return Some(Refusal {
                 place: Place::Node(i as u64),
-                addr: node.addr,
+                address: node.addr,
                 cond,
             });
         }
@@ -252,13 +243,12 @@ fn bounds(alloc: Global, markers: &[Addr], nodes: &[Node]) -> Result<Vec<(Addr, 
 pub fn check(alloc: Global, plan: &Plan, cert: &Cert) -> Result<Verdict, AllocError>
     ensures { IfOk result (λ v. verdict_view v ≡ verdict_of plan.now (cert_view cert.now)) }
 {
-    let bounds = bounds(alloc, plan.markers(), &cert.nodes)?;
-    let failure = match first_start(cert, plan.starts()) {
-        Some(failure) => Some(failure),
+    let refusal = match first_start(cert, plan.starts()) {
+        Some(refusal) => Some(refusal),
         None => first_node(plan, cert),
     };
-    match failure {
-        None => Ok(Verdict::Yes(bounds)),
-        Some(Failure { place, addr, cond }) => Ok(Verdict::No { place, addr, cond }),
-    }
+    Ok(match refusal {
+        None => Verdict::Yes(bounds(alloc, plan.markers(), &cert.nodes)?),
+        Some(refusal) => Verdict::No(refusal),
+    })
 }

@@ -1,4 +1,4 @@
-ghost use Rattle.std.specs.Prelude.{◌≡◌, ◌<◌, ◌≤◌, ◌^◌, ℕ, List, length, vec_len, IfOk, IfErr, Ok, Some, Option, option_map};
+ghost use Rattle.std.specs.Prelude.{◌≡◌, ◌<◌, ◌^◌, IfOk, IfErr, Ok, Some};
 ghost use Rattle.std.specs.Int.{w8, w32, w64};
 ghost use Rattle.viper_top.specs.Certificates.{node_view, nodes_view, cert_view, Certificate, IsCertificate};
 ghost use Rattle.viper_top.specs.Reading.{Gives, number_at, literal_at, is_value, value_at, index_at, many_at, indices_at, rank_at, node_at, counted_at, cert_of};

@@ -1,12 +1,31 @@
-ghost use Rattle.std.specs.Prelude.{◌≡◌, List, option_map};
-ghost use Rattle.viper_top.specs.CommandLine.{is_plain, names_in, row_names};
+ghost use Rattle.std.specs.Prelude.{◌≡◌, option_map};
+ghost use Rattle.viper_top.specs.Orders.{is_plain, order_in, three_names, steps_of, names_and_steps, target_of};
+ghost use Rattle.viper_top.specs.Stages.{order_view};
 
-/// The names on the command line `check IMAGE PLAN CERT`.
+use memory_plan::natural;
+
+/// How many digits a number of steps has at the most.
+const STEPS_DIGITS: usize = 7;
+
+/// How many steps a run has at the most.
+const MOST_STEPS: u64 = 1_000_000;
+
+/// A command with the names that it is given (README.md, "Statuses and texts").
 #[derive(Clone, Copy)]
-pub struct Row<'a> {
-    pub image: &'a str,
-    pub plan: &'a str,
-    pub cert: &'a str,
+pub enum Command<'a> {
+    /// `check IMAGE PLAN CERT`
+    Check {
+        image: &'a str,
+        plan: &'a str,
+        cert: &'a str,
+    },
+    /// `run IMAGE PLAN SCRIPT STEPS`
+    Run {
+        image: &'a str,
+        plan: &'a str,
+        script: &'a str,
+        steps: u64,
+    },
 }
 
 /// Is the word a name: not empty, and no option?
@@ -19,15 +38,79 @@ fn is_plain(word: &str) -> bool
     }
 }
 
-/// The row that the words are. None exactly where they are none.
-pub fn row_of<'a>(words: &[&'a str]) -> Option<Row<'a>>
-    ensures { option_map row_names result ≡ names_in words.now }
+/// The command that the words are. None exactly where they are none.
+pub fn command_of<'a>(words: &[&'a str]) -> Option<Command<'a>>
+    ensures { option_map order_view result ≡ order_in words.now }
 {
     match words {
-        [command, image, plan, cert]
-            if *command == "check" && is_plain(image) && is_plain(plan) && is_plain(cert) => Some(
-            Row { image, plan, cert },
-        ),
+        [word, a, b, c] if is_plain(a) && is_plain(b) && is_plain(c) => three_names(word, a, b, c),
+        [word, a, b, c, d] if is_plain(a) && is_plain(b) && is_plain(c) => {
+            names_and_steps(word, a, b, c, d)
+        }
         _ => None,
+    }
+}
+
+/// A number of steps, from 1 to 1,000,000 in one to seven digits. None exactly where the word is none.
+fn steps_of(word: &str) -> Option<u64>
+    ensures { result ≡ steps_of word.now }
+{
+    if word.len() > STEPS_DIGITS {
+        return None;
+    }
+    let steps = natural(word.as_bytes())?;
+    if 1 <= steps && steps <= MOST_STEPS {
+        Some(steps)
+    } else {
+        None
+    }
+}
+
+/// The command of this word with three names and a number of steps.
+fn names_and_steps<'a>(
+    word: &str,
+    a: &'a str,
+    b: &'a str,
+    c: &'a str,
+    d: &str,
+) -> Option<Command<'a>>
+    ensures { option_map order_view result ≡ names_and_steps word.now a.now b.now c.now d.now }
+{
+    match word {
+        "run" => {
+            let steps = steps_of(d)?;
+            Some(Command::Run {
+                image: a,
+                plan: b,
+                script: c,
+                steps,
+            })
+        }
+        _ => None,
+    }
+}
+
+/// The command of this word with three names.
+fn three_names<'a>(word: &str, a: &'a str, b: &'a str, c: &'a str) -> Option<Command<'a>>
+    ensures { option_map order_view result ≡ three_names word.now a.now b.now c.now }
+{
+    match word {
+        "check" => Some(Command::Check {
+            image: a,
+            plan: b,
+            cert: c,
+        }),
+        _ => None,
+    }
+}
+
+impl<'a> Command<'a> {
+    /// The name that it places.
+    pub fn target(&self) -> Option<&'a str>
+        ensures { option_map (λ n. n.now) result ≡ target_of (order_view self.now) }
+    {
+        match *self {
+            Command::Check { .. } | Command::Run { .. } => None,
+        }
     }
 }

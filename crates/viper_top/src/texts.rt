@@ -1,9 +1,9 @@
-ghost use Rattle.std.specs.Prelude.{◌≡◌, ◌++◌, ℕ, List, IfOk, OnOk};
+ghost use Rattle.std.specs.Prelude.{◌≡◌, ◌++◌, IfOk, OnOk};
 ghost use Rattle.viper_top.specs.Texts.{bound_text, marker_line, yes_text, cond_text, place_text, no_text};
 
 use crate::abs_step::Cond;
-use crate::cert_checker::{Bound, Place};
-use memory_plan::address_digits;
+use crate::cert_checker::{Bound, Place, Refusal};
+use line_text::address_digits;
 use std::alloc::{AllocError, Global};
 use viper_word::Addr;
 
@@ -80,15 +80,15 @@ fn push_place(out: &mut Vec<u8>, alloc: Global, place: Place) -> Result<(), Allo
 /// The text of a no: the first condition that fails, its place and the address there (README.md,
 /// "Statuses and texts").
 #[tactic(auto, unfolding(crate::specs::Texts::no_text))]
-pub fn no_text(alloc: Global, place: Place, addr: Addr, cond: Cond) -> Result<Vec<u8>, AllocError>
-    ensures { IfOk result (λ v. v.items ≡ no_text (record { place = place; address = addr; cond = cond })) }
+pub fn no_text(alloc: Global, refusal: Refusal) -> Result<Vec<u8>, AllocError>
+    ensures { IfOk result (λ v. v.items ≡ no_text refusal) }
 {
     let mut out = Vec::from_slice(alloc, b"no ")?;
-    push_place(&mut out, alloc, place)?;
+    push_place(&mut out, alloc, refusal.place)?;
     out.extend_from_slice(b" address ")?;
-    out.extend_from_slice(&address_digits(addr))?;
+    out.extend_from_slice(&address_digits(refusal.address))?;
     out.extend_from_slice(b" condition ")?;
-    out.extend_from_slice(cond_text(cond).as_bytes())?;
+    out.extend_from_slice(cond_text(refusal.cond).as_bytes())?;
     out.extend_from_slice(b"\n")?;
     Ok(out)
 }

@@ -1,63 +1,67 @@
-ghost use Rattle.std.specs.Prelude.{◌≡◌, ◌≢◌, ◌≤◌, ◌⊎◌, ℕ, List, map, Some, None, Option, Bool, true, take, codes};
-ghost use Rattle.viper_io.specs.Causes.{Failure, Rose, SameContents, Wrote};
-ghost use Rattle.viper_io.specs.Held.{sure_holds};
-ghost use Rattle.viper_top.specs.CommandLine.{Names, names_in};
-ghost use Rattle.viper_top.specs.Answers.{status_number, Said, answer_view, verdict_answer, Answered, EndsAnswered, AnswersRow, RowFailed};
+ghost use Rattle.std.specs.Prelude.{◌≡◌, ◌≢◌, ◌≤◌, ◌⊎◌, ℕ, List, Some, None, true, codes};
 ghost use Rattle.memory_plan.specs.Plans.{PlanLines};
+ghost use Rattle.viper_io.specs.Causes.{Rose, Wrote};
+ghost use Rattle.viper_io.specs.Held.{sure_stock, sure_output};
 ghost use Rattle.viper_top.specs.Certificates.{Certificate};
-ghost use Rattle.viper_top.specs.Verdicts.{verdict_of};
-ghost use Rattle.viper_top.specs.Claims.{LocalSuffices, UniqueSpellings, YesExactlyWhereLocal};
-ghost use Rattle.viper_top.specs.Headline.{Headline, DeclinedRow, LeftFront, AreGiven, IsSaid};
+ghost use Rattle.viper_top.specs.Endings.{EndsAnswered};
+ghost use Rattle.viper_top.specs.Orders.{Order, Check, Run, order_in, target_of, target_in};
+ghost use Rattle.viper_top.specs.Check.{checked};
+ghost use Rattle.viper_top.specs.Headlines.{Verified, Declined, AreGiven, EndsAs, Followed};
+ghost use Rattle.viper_top.specs.Promises.{OfOrder, Answered, FailedOutside, LeftFront, Keeps, IsQuiet, NothingFailed, NoFailures, Grew, Settled};
+ghost use Rattle.viper_top.specs.Stages.{order_view};
 
-use crate::answers::{Stop, answer_row};
-use crate::command_line::row_of;
+use crate::answer::Stop;
+use crate::command_line::{Command, command_of};
+use crate::ending::{place, put};
+use crate::reading::answer;
+use crate::status::Status;
 use std::alloc::Global;
-use viper_io::{Sink, SinkFault, Store, SurePage, SureShelf};
+use viper_io::{Sink, Store, SurePage, SureShelf};
 
-/// How a command ends (README.md, "Statuses and texts").
-#[derive(Clone, Copy, Debug, PartialEq, Eq)]
-pub enum Status {
-    /// The work is done: a yes.
-    Done = 0,
-    /// A no, with its cause.
-    Refused = 1,
-    /// The words are no command.
-    Usage = 2,
-    /// A content is too long, or isn't of its form.
-    Input = 3,
-    /// A fetch or a put failed.
-    Outside = 4,
-    /// An allocation found no memory.
-    Memory = 5,
-}
-
-impl Status {
-    /// The number that the program ends with, from 0 to 5.
-    pub fn number(self) -> u8
-        ensures { result ≡ status_number self }
-    {
-        self as u8
-    }
-}
-
-/// Puts the text of a status.
-fn put<K: Sink>(out: &mut K, status: Status, text: &[u8]) -> Status
-    requires { EndsAnswered status ⊎ (status ≡ Status.Usage) }
-    ensures put { EndsAnswered result ⊎ (result ≡ Status.Usage) → (result ≡ status)
-        × Wrote (K.put_so_far out.old) text.now (K.put_so_far out.new) }
-    ensures outside { result ≡ Status.Outside → Rose (K.faults out.old) (K.faults out.new) }
-    ensures front { result ≡ Status.Outside → ((n : ℕ)
-        × Wrote (K.put_so_far out.old) (take n text.now) (K.put_so_far out.new)) }
-    ensures memory { result ≡ Status.Memory → K.put_so_far out.new ≡ K.put_so_far out.old }
+/// Does a command: it reads its contents, does its work, places, and puts.
+#[tactic(auto, using(crate::proofs::Growth::grew_twice))]
+fn carry_out<S: Store, K: Sink>(
+    alloc: Global,
+    command: &Command<'_>,
+    store: &mut S,
+    out: &mut K,
+) -> Status
+    ensures no_usage { result ≢ Status.Usage }
+    ensures answered { EndsAnswered result
+        → Answered (order_view command.now) (S.stock store.old) (S.stock store.new)
+        result (K.output out.old) (K.output out.new) }
+    ensures outside { result ≡ Status.Outside
+        → FailedOutside (Some (order_view command.now)) (S.stock store.old) (S.stock store.new)
+        (K.output out.old) (K.output out.new) }
+    ensures outside_put { result ≡ Status.Outside
+        → ((K.output out.new).text ≡ (K.output out.old).text)
+        ⊎ LeftFront (Some (order_view command.now)) (S.stock store.old) (S.stock store.new)
+        (K.output out.old) (K.output out.new) }
+    ensures memory { result ≡ Status.Memory → (K.output out.new).text ≡ (K.output out.old).text }
+    ensures others { (name : List ℕ) → target_of (order_view command.now) ≢ Some name
+        → (S.stock store.new).holds name ≡ (S.stock store.old).holds name }
+    ensures quiet { IsQuiet result
+        → (name : List ℕ) → (S.stock store.new).holds name ≡ (S.stock store.old).holds name }
+    ensures kept { (name : List ℕ) → target_of (order_view command.now) ≡ Some name
+        → Keeps (order_view command.now) (S.stock store.old) (S.stock store.new) result name }
+    ensures clean { result ≢ Status.Outside
+        → NoFailures (S.stock store.old) (S.stock store.new) (K.output out.old) (K.output out.new) }
+    ensures store_grew { Grew (S.stock store.old) (S.stock store.new) }
+    ensures sink_grew { (K.output out.old).faults ≤ (K.output out.new).faults }
 {
-    match out.put(text) {
-        Ok(()) => status,
-        Err(SinkFault::Failed) => Status::Outside,
-        Err(SinkFault::Memory) => Status::Memory,
+    match answer(alloc, store, command) {
+        Err(Stop::Outside) => Status::Outside,
+        Err(Stop::Memory) => Status::Memory,
+        Ok(answer) => match place(store, command.target(), &answer) {
+            Err(Stop::Outside) => Status::Outside,
+            Err(Stop::Memory) => Status::Memory,
+            Ok(()) => put(out, answer.status(), answer.text()),
+        },
     }
 }
 
-/// Answers the words, and puts the text of the answer.
+/// Answers the words.
+#[tactic(auto, using(crate::proofs::Growth::grew_same))]
 fn answer_words<S: Store, K: Sink>(
     alloc: Global,
     words: &[&str],
@@ -65,119 +69,143 @@ fn answer_words<S: Store, K: Sink>(
     out: &mut K,
 ) -> Status
     ensures answered { EndsAnswered result
-        → AnswersRow (S.tells store.old) (S.holds store.old) (names_in words.now)
-        (S.longs store.old) (S.longs store.new) result (K.put_so_far out.old) (K.put_so_far out.new) }
-    ensures usage { result ≡ Status.Usage → (names_in words.now ≡ None)
-        × Wrote (K.put_so_far out.old) (codes "usage\n") (K.put_so_far out.new) }
+        → OfOrder (order_in words.now) (λ o. Answered o (S.stock store.old) (S.stock store.new)
+        result (K.output out.old) (K.output out.new)) }
+    ensures usage { result ≡ Status.Usage → (order_in words.now ≡ None)
+        × Wrote (K.output out.old).text (codes "usage\n") (K.output out.new).text }
     ensures outside { result ≡ Status.Outside
-        → RowFailed (names_in words.now) (S.failures store.old) (S.failures store.new)
-        ⊎ Rose (K.faults out.old) (K.faults out.new) }
-    ensures outside_put { result ≡ Status.Outside → (K.put_so_far out.new ≡ K.put_so_far out.old)
-        ⊎ LeftFront (S.tells store.old) (S.holds store.old) (names_in words.now)
-        (S.longs store.old) (S.longs store.new) (K.faults out.old) (K.faults out.new)
-        (K.put_so_far out.old) (K.put_so_far out.new) }
-    ensures memory { result ≡ Status.Memory → K.put_so_far out.new ≡ K.put_so_far out.old }
-    ensures same { SameContents S.holds store.old store.new }
+        → FailedOutside (order_in words.now) (S.stock store.old) (S.stock store.new)
+        (K.output out.old) (K.output out.new) }
+    ensures outside_put { result ≡ Status.Outside
+        → ((K.output out.new).text ≡ (K.output out.old).text)
+        ⊎ LeftFront (order_in words.now) (S.stock store.old) (S.stock store.new)
+        (K.output out.old) (K.output out.new) }
+    ensures memory { result ≡ Status.Memory → (K.output out.new).text ≡ (K.output out.old).text }
+    ensures others { (name : List ℕ) → target_in (order_in words.now) ≢ Some name
+        → (S.stock store.new).holds name ≡ (S.stock store.old).holds name }
+    ensures quiet { IsQuiet result
+        → (name : List ℕ) → (S.stock store.new).holds name ≡ (S.stock store.old).holds name }
+    ensures kept { (name : List ℕ) → target_in (order_in words.now) ≡ Some name
+        → OfOrder (order_in words.now) (λ o. Keeps o (S.stock store.old) (S.stock store.new)
+        result name) }
+    ensures clean { result ≢ Status.Outside
+        → NoFailures (S.stock store.old) (S.stock store.new) (K.output out.old) (K.output out.new) }
+    ensures store_grew { Grew (S.stock store.old) (S.stock store.new) }
+    ensures sink_grew { (K.output out.old).faults ≤ (K.output out.new).faults }
 {
-    let Some(row) = row_of(words) else {
-        return put(out, Status::Usage, b"usage\n");
-    };
-    match answer_row(alloc, store, &row) {
-        Ok(answer) => put(out, answer.status, &answer.text),
-        Err(Stop::Outside) => Status::Outside,
-        Err(Stop::Memory) => Status::Memory,
+    match command_of(words) {
+        None => put(out, Status::Usage, b"usage\n"),
+        Some(command) => carry_out(alloc, &command, store, out),
     }
 }
 
 /// Does what the words of the command line say, which are those after the program's name: so far
-/// `check IMAGE PLAN CERT`. Nothing is placed. The text goes to the sink in one put (README.md,
-/// "Statuses and texts").
+/// `check IMAGE PLAN CERT` and `run IMAGE PLAN SCRIPT STEPS`. Each content is fetched once, in the row's order; what the command
+/// makes is placed, and its text goes to the sink in one put (README.md, "Statuses and texts";
+/// docs/PROVED.md says the clauses in words).
 pub fn viper_main<S: Store, K: Sink>(
     alloc: Global,
     words: &[&str],
     store: &mut S,
     out: &mut K,
 ) -> Status
-    // Done: every fair run is safe, and from each marker the next is met within the number put for it.
-    ensures done { result ≡ Status.Done
-        → Headline (S.tells store.old) (S.holds store.old) (names_in words.now)
-        (K.put_so_far out.old) (K.put_so_far out.new) }
-    // Refused: the first local condition that fails was put.
-    ensures refused { result ≡ Status.Refused
-        → DeclinedRow (S.tells store.old) (S.holds store.old) (names_in words.now)
-        (K.put_so_far out.old) (K.put_so_far out.new) }
-    // Done, Refused and Input: the answer for what the contents are read as, with its text.
+    // Done, Refused and Input: an ending of the command for what the store handed out in this call.
     ensures answered { EndsAnswered result
-        → AnswersRow (S.tells store.old) (S.holds store.old) (names_in words.now)
-        (S.longs store.old) (S.longs store.new) result (K.put_so_far out.old) (K.put_so_far out.new) }
-    // Usage: no row has these words.
-    ensures usage { result ≡ Status.Usage → (names_in words.now ≡ None)
-        × Wrote (K.put_so_far out.old) (codes "usage\n") (K.put_so_far out.new) }
-    // And where no row has them and the put doesn't fail, it is Usage or want of memory.
-    ensures usage_where { names_in words.now ≡ None → (Rose (K.faults out.old) (K.faults out.new) → ⊥)
+        → OfOrder (order_in words.now) (λ o. Answered o (S.stock store.old) (S.stock store.new)
+        result (K.output out.old) (K.output out.new)) }
+    // check, Done: every fair run is safe, and each marker is met within the number put for it.
+    ensures check_done { (image plan cert : List ℕ)
+        → order_in words.now ≡ Some (Check image plan cert) → result ≡ Status.Done
+        → Verified image plan cert (S.stock store.old) (S.stock store.new)
+        (K.output out.old) (K.output out.new) }
+    // check, Refused: the first local condition that fails was put.
+    ensures check_refused { (image plan cert : List ℕ)
+        → order_in words.now ≡ Some (Check image plan cert) → result ≡ Status.Refused
+        → Declined image plan cert (S.stock store.old) (S.stock store.new)
+        (K.output out.old) (K.output out.new) }
+    // check of contents of their forms and limits, and no failure: the verdict, or want of memory.
+    ensures check_complete { (image plan cert : List ℕ)
+        → (lines : PlanLines) (certificate : Certificate)
+        → order_in words.now ≡ Some (Check image plan cert)
+        → AreGiven image plan cert (S.stock store.old) lines certificate
+        → NothingFailed (S.stock store.old) (S.stock store.new)
+        (K.output out.old) (K.output out.new)
+        → result ≢ Status.Memory
+        → EndsAs (checked lines certificate) result (K.output out.old) (K.output out.new) }
+    // run, Done and Refused: the ending and the outputs put are those of the machine's run.
+    ensures run_ends { (image plan script : List ℕ) → (steps : ℕ)
+        → order_in words.now ≡ Some (Run image plan script steps)
+        → (result ≡ Status.Done) ⊎ (result ≡ Status.Refused)
+        → Followed image plan script steps (S.stock store.old) (S.stock store.new) result
+        (K.output out.old) (K.output out.new) }
+    // Usage: the words are no command.
+    ensures usage { result ≡ Status.Usage → (order_in words.now ≡ None)
+        × Wrote (K.output out.old).text (codes "usage\n") (K.output out.new).text }
+    // And where they are none and the put doesn't fail, it is Usage or want of memory.
+    ensures usage_where { order_in words.now ≡ None
+        → (Rose (K.output out.old).faults (K.output out.new).faults → ⊥)
         → result ≢ Status.Memory → result ≡ Status.Usage }
-    // Outside: a fetch of one of the row's names failed, or the put.
+    // Outside: the fetch that was due failed, or the place, or the put, and nothing else.
     ensures outside { result ≡ Status.Outside
-        → RowFailed (names_in words.now) (S.failures store.old) (S.failures store.new)
-        ⊎ Rose (K.faults out.old) (K.faults out.new) }
+        → FailedOutside (order_in words.now) (S.stock store.old) (S.stock store.new)
+        (K.output out.old) (K.output out.new) }
     // After it nothing was put, but for the first bytes of a text where the put failed.
-    ensures outside_put { result ≡ Status.Outside → (K.put_so_far out.new ≡ K.put_so_far out.old)
-        ⊎ LeftFront (S.tells store.old) (S.holds store.old) (names_in words.now)
-        (S.longs store.old) (S.longs store.new) (K.faults out.old) (K.faults out.new)
-        (K.put_so_far out.old) (K.put_so_far out.new) }
+    ensures outside_put { result ≡ Status.Outside
+        → ((K.output out.new).text ≡ (K.output out.old).text)
+        ⊎ LeftFront (order_in words.now) (S.stock store.old) (S.stock store.new)
+        (K.output out.old) (K.output out.new) }
     // After Memory nothing was put.
-    ensures memory { result ≡ Status.Memory → K.put_so_far out.new ≡ K.put_so_far out.old }
-    // A row whose fetches and put don't fail: one of these three, or want of memory.
-    ensures ends { names_in words.now ≢ None → S.failures store.new ≡ S.failures store.old
-        → (Rose (K.faults out.old) (K.faults out.new) → ⊥) → result ≢ Status.Memory
-        → EndsAnswered result }
-    // Contents of their forms and limits, and no failure: the verdict, or want of memory.
-    ensures complete { (names : Names) (image : List (ℕ × ℕ)) (plan : PlanLines) (cert : Certificate)
-        → names_in words.now ≡ Some names
-        → AreGiven (S.tells store.old) (S.holds store.old) names image plan cert
-        → S.failures store.new ≡ S.failures store.old
-        → (Rose (K.faults out.old) (K.faults out.new) → ⊥) → result ≢ Status.Memory
-        → IsSaid (verdict_answer (verdict_of plan cert)) result
-        (K.put_so_far out.old) (K.put_so_far out.new) }
-    // Nothing is placed.
-    ensures same { SameContents S.holds store.old store.new }
+    ensures memory { result ≡ Status.Memory → (K.output out.new).text ≡ (K.output out.old).text }
+    // Names other than the one that the command places hold what they held.
+    ensures others { (name : List ℕ) → target_in (order_in words.now) ≢ Some name
+        → (S.stock store.new).holds name ≡ (S.stock store.old).holds name }
+    // After Refused, Usage and Input nothing was placed.
+    ensures quiet { IsQuiet result
+        → (name : List ℕ) → (S.stock store.new).holds name ≡ (S.stock store.old).holds name }
+    // The name that it places holds what it held, or what was made, but where its place failed.
+    ensures kept { (name : List ℕ) → target_in (order_in words.now) ≡ Some name
+        → OfOrder (order_in words.now) (λ o. Keeps o (S.stock store.old) (S.stock store.new)
+        result name) }
+    // No call of the store or the sink failed, but where it is Outside.
+    ensures clean { result ≢ Status.Outside
+        → NoFailures (S.stock store.old) (S.stock store.new) (K.output out.old) (K.output out.new) }
+    // What the store and the sink keep only grew, and whether the store tells stayed.
+    ensures store_grew { Grew (S.stock store.old) (S.stock store.new) }
+    ensures sink_grew { (K.output out.old).faults ≤ (K.output out.new).faults }
+    // A command of which nothing failed: Done, Refused or Input, or want of memory.
+    ensures ends { order_in words.now ≢ None
+        → NothingFailed (S.stock store.old) (S.stock store.new)
+        (K.output out.old) (K.output out.new)
+        → result ≢ Status.Memory → EndsAnswered result }
+    // Where the store tells, it is an ending to which the contents lead that the names hold.
+    ensures complete { (order : Order) → order_in words.now ≡ Some order
+        → (S.stock store.old).tells ≡ true
+        → NothingFailed (S.stock store.old) (S.stock store.new)
+        (K.output out.old) (K.output out.new)
+        → result ≢ Status.Memory
+        → Settled order (S.stock store.old) result (K.output out.old) (K.output out.new) }
 {
     answer_words(alloc, words, store, out)
 }
 
-/// `viper_main` over a shelf and a page that never fail: Outside never comes.
+/// `viper_main` over a shelf and a page that never fail: Outside never comes, and a command is
+/// answered, or finds no memory.
 pub fn sure_main(alloc: Global, words: &[&str], store: &mut SureShelf, out: &mut SurePage) -> Status
     ensures sure { result ≢ Status.Outside }
-    ensures done { result ≡ Status.Done
-        → Headline true (sure_holds store.old) (names_in words.now) (Some out.old) (Some out.new) }
-    ensures answered { EndsAnswered result
-        → AnswersRow true (sure_holds store.old) (names_in words.now)
-        store.old.longs store.new.longs result (Some out.old) (Some out.new) }
-    ensures usage { result ≡ Status.Usage → (names_in words.now ≡ None)
+    ensures check_done { (image plan cert : List ℕ)
+        → order_in words.now ≡ Some (Check image plan cert) → result ≡ Status.Done
+        → Verified image plan cert (sure_stock store.old) (sure_stock store.new)
+        (sure_output out.old) (sure_output out.new) }
+    ensures complete { (order : Order) → order_in words.now ≡ Some order → result ≢ Status.Memory
+        → Settled order (sure_stock store.old) result (sure_output out.old) (sure_output out.new) }
+    ensures usage { result ≡ Status.Usage → (order_in words.now ≡ None)
         × Wrote (Some out.old) (codes "usage\n") (Some out.new) }
-    ensures usage_where { names_in words.now ≡ None → result ≢ Status.Memory → result ≡ Status.Usage }
+    ensures usage_where { order_in words.now ≡ None
+        → result ≢ Status.Memory → result ≡ Status.Usage }
     ensures memory { result ≡ Status.Memory → out.new ≡ out.old }
-    ensures ends { names_in words.now ≢ None → result ≢ Status.Memory → EndsAnswered result }
-    ensures same { SameContents sure_holds store.old store.new }
+    ensures ends { order_in words.now ≢ None → result ≢ Status.Memory → EndsAnswered result }
+    ensures others { (name : List ℕ) → target_in (order_in words.now) ≢ Some name
+        → (sure_stock store.new).holds name ≡ (sure_stock store.old).holds name }
 {
     viper_main(alloc, words, store, out)
 }
-
-/// Local conditions suffice: where they hold of a plan whose words are all literal reads and of a
-/// certificate, every fair run of every length is safe, and each marker is bounded, or unreached, as
-/// its bound says (docs/METHOD.md, "Conditions").
-pub fn local_conditions_suffice()
-    ensures { LocalSuffices }
-{}
-
-/// A text spells one value: an image's text one image, a plan's one plan over its image, and the bytes of
-/// a certificate one certificate (docs/FORMATS.md).
-pub fn spellings_are_unique()
-    ensures { UniqueSpellings }
-{}
-
-/// A yes, with the greatest rank at each marker, comes exactly where all local conditions hold, and else a
-/// no, with the first that fails (docs/METHOD.md, "Verdicts").
-pub fn yes_exactly_where_local()
-    ensures { YesExactlyWhereLocal }
-{}

@@ -2,6 +2,7 @@ ghost use Rattle.std.specs.Prelude.{◌≡◌, ◌≤◌, [], false, None, lengt
 
 use super::whole::{read_whole, write_whole};
 use crate::failed_call::FailedCall;
+use crate::handouts::Handouts;
 use crate::{Call, FetchFault, PlaceFault, Store};
 use std::alloc::Global;
 use std::marker::Model;
@@ -15,6 +16,7 @@ pub struct FileStore<'a, R: Files> {
     alloc: Global,
     failures: Vec<FailedCall>,
     longs: u64,
+    handouts: Handouts,
 }
 
 impl<'a, R: Files> Model for FileStore<'a, R> {
@@ -22,19 +24,20 @@ impl<'a, R: Files> Model for FileStore<'a, R> {
 
     ghost Value = { FileState };
 
-    ghost view = { λ s. record { failures = s.failures.items; longs = s.longs } };
+    ghost view = { λ s. record { failures = s.failures.items; longs = s.longs; handed = s.handouts.list } };
 }
 
 impl<'a, R: Files> FileStore<'a, R> {
     /// The files of a system, of which no call failed so far.
     pub fn new(files: &'a R, alloc: Global) -> FileStore<'a, R>
-        ensures { result ≡ record { failures = []; longs = 0 } }
+        ensures { result ≡ record { failures = []; longs = 0; handed = [] } }
     {
         FileStore {
             files,
             alloc,
             failures: Vec::new(alloc),
             longs: 0,
+            handouts: Handouts::new(),
         }
     }
 }
@@ -74,31 +77,27 @@ fn write_file<R: Files>(files: &R, name: &str, bytes: &[u8]) -> bool {
 }
 
 impl<'a, R: Files> Store for FileStore<'a, R> {
-    ghost tells = { λ _. false };
-
-    ghost holds = { λ _ _. None };
-
-    ghost failures = { λ s. s.failures };
-
-    ghost longs = { λ s. s.longs };
+    ghost stock = { λ s. record { tells = false; holds = λ _. None; failures = s.failures; longs = s.longs; handed = s.handed } };
 
     /// The content of a file. It fails where the file can't be opened or read whole.
-    #[tactic(auto, using(crate::proofs::Growth::grew_none, crate::proofs::Growth::grew_one))]
     fn fetch(&mut self, alloc: Global, name: &str, limit: u64) -> Result<Vec<u8>, FetchFault> {
         let failed = FailedCall::new(self.alloc, Call::Fetch, name)?;
         self.failures.reserve(1)?;
         let answer = read_file(self.files, alloc, name, limit);
-        match answer {
+        match &answer {
             Err(FetchFault::Failed) => self.failures.push(failed).unwrap(),
-            Err(FetchFault::Long) => self.longs = self.longs.saturating_add(1),
-            Err(FetchFault::Memory) | Ok(_) => {}
+            Err(FetchFault::Long) => {
+                self.longs = self.longs.saturating_add(1);
+                self.handouts.found_long(name, limit);
+            }
+            Err(FetchFault::Memory) => {}
+            Ok(bytes) => self.handouts.gave(name, limit, bytes),
         }
         answer
     }
 
     /// Makes a file hold the bytes. It fails where the file can't be made or written whole, and
     /// the file may then hold anything.
-    #[tactic(auto, using(crate::proofs::Growth::grew_none, crate::proofs::Growth::grew_one))]
     fn place(&mut self, name: &str, bytes: &[u8]) -> Result<(), PlaceFault> {
         let failed = FailedCall::new(self.alloc, Call::Place, name)?;
         self.failures.reserve(1)?;

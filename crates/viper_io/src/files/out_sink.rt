@@ -1,6 +1,6 @@
 ghost use Rattle.std.specs.Io.KnownBytes.{Appends};
-ghost use Rattle.std.specs.Prelude.{◌≡◌, ◌≤◌, None, OnOk, IfErr};
-ghost use Rattle.viper_io.specs.Causes.{risen};
+ghost use Rattle.std.specs.Prelude.{◌≡◌, ◌≤◌, ℕ, take, None, OnOk, OnErr, IfErr};
+ghost use Rattle.viper_io.specs.Causes.{faults_after};
 
 use super::whole::write_whole;
 use crate::{Sink, SinkFault};
@@ -32,16 +32,17 @@ impl<T: Write> OutSink<T> {
 }
 
 impl<T: Write> Sink for OutSink<T> {
-    ghost put_so_far = { λ _. None };
+    ghost output = { λ s. record { text = None; faults = s.faults } };
 
-    ghost faults = { λ s. s.faults };
-
-    /// Writes the bytes. It fails where a write fails or takes nothing, and some may have gone out.
+    /// Writes the bytes. It fails where a write fails or takes nothing, and then a first part of
+    /// the bytes has gone out, and nothing else.
     fn put(&mut self, bytes: &[u8]) -> Result<(), SinkFault>
-        ensures faults { self.old.faults ≤ self.new.faults }
+        ensures sure { IfErr result (λ e. e ≡ SinkFault.Failed) }
+        ensures faults { self.new.faults ≡ faults_after self.old.faults result }
+        ensures rising { self.old.faults ≤ self.new.faults }
         ensures written { OnOk result (Appends self.old.written self.new.written bytes.now) }
-        ensures after_ok { OnOk result (self.new.faults ≡ self.old.faults) }
-        ensures after_failed { IfErr result (λ e. (e ≡ SinkFault.Failed) × (self.new.faults ≡ risen self.old.faults)) }
+        ensures front { OnErr result ((n : ℕ)
+            × Appends self.old.written self.new.written (take n bytes.now)) }
     {
         if write_whole(&mut self.writer, bytes) {
             return Ok(());

@@ -1,6 +1,6 @@
 ghost use Rattle.std.specs.Prelude.{◌≡◌, ◌++◌, ◌∷◌, ◌≤◌, [], ℕ, take, None, Some, OnOk, OnErr, IfErr, IsSomeAnd};
-ghost use Rattle.viper_io.specs.Causes.{Rose, risen};
-ghost use Rattle.viper_io.specs.Held.{taken_of};
+ghost use Rattle.viper_io.specs.Causes.{faults_after, risen};
+ghost use Rattle.viper_io.specs.Held.{taken_of, Took};
 
 use crate::{Sink, SinkFault};
 use std::alloc::Global;
@@ -96,23 +96,28 @@ fn front(bytes: &[u8], count: u64) -> &[u8]
 }
 
 impl Sink for Page {
-    ghost put_so_far = { λ p. Some p.bytes };
-
-    ghost faults = { λ p. p.faults };
+    ghost output = { λ s. record { text = Some s.bytes; faults = s.faults } };
 
     /// Puts the bytes behind those before. It fails exactly where its number is listed.
     fn put(&mut self, bytes: &[u8]) -> Result<(), SinkFault>
         ensures ok { OnOk result (self.new.bytes ≡ self.old.bytes ++ bytes.now) }
-        ensures front { IfErr result (λ e. e ≡ SinkFault.Failed → ((n : ℕ) × (self.new.bytes ≡ self.old.bytes ++ take n bytes.now))) }
-        ensures memory { IfErr result (λ e. e ≡ SinkFault.Memory → self.new.bytes ≡ self.old.bytes) }
-        ensures faults { self.old.faults ≤ self.new.faults }
-        ensures failed { IfErr result (λ e. e ≡ SinkFault.Failed → Rose self.old.faults self.new.faults) }
+        ensures front { IfErr result (λ e. e ≡ SinkFault.Failed
+            → ((n : ℕ) × (self.new.bytes ≡ self.old.bytes ++ take n bytes.now))) }
+        ensures memory { IfErr result (λ e. e ≡ SinkFault.Memory
+            → self.new.bytes ≡ self.old.bytes) }
+        ensures faults { self.new.faults ≡ faults_after self.old.faults result }
+        ensures rising { self.old.faults ≤ self.new.faults }
 
-        // When it fails, but for want of memory, and all that the call changes.
+        // When it fails, but for want of memory, how much it then takes, and what else changes.
         ensures sound { OnOk result (taken_of self.old.failing self.old.puts ≡ None) }
-        ensures after_ok { OnOk result (self.new ≡ record self.old { bytes = self.old.bytes ++ bytes.now; puts = risen self.old.puts }) }
-        ensures after_failed { IfErr result (λ e. e ≡ SinkFault.Failed → IsSomeAnd (taken_of self.old.failing self.old.puts) (λ taken. self.new ≡ record self.old { bytes = self.old.bytes ++ take taken bytes.now; puts = risen self.old.puts; faults = risen self.old.faults })) }
-        ensures after_memory { IfErr result (λ e. e ≡ SinkFault.Memory → self.new ≡ record self.old { puts = risen self.old.puts }) }
+        ensures listed { IfErr result (λ e. e ≡ SinkFault.Failed
+            → IsSomeAnd (taken_of self.old.failing self.old.puts)
+            (Took self.old self.new bytes.now)) }
+        ensures rest { self.new ≡ record self.old {
+          bytes = self.new.bytes;
+          puts = risen self.old.puts;
+          faults = self.new.faults;
+        } }
     {
         let put = self.puts;
         self.puts = put.saturating_add(1);

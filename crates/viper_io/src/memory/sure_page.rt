@@ -1,4 +1,4 @@
-ghost use Rattle.std.specs.Prelude.{◌≡◌, [], Some};
+ghost use Rattle.std.specs.Prelude.{◌≡◌, []};
 
 use crate::{Sink, SinkFault};
 use std::alloc::Global;
@@ -37,9 +37,9 @@ impl SurePage {
 }
 
 impl Sink for SurePage {
-    ghost put_so_far = { λ p. Some p };
+    ghost use Rattle.viper_io.specs.Held.{sure_output};
 
-    ghost faults = { λ _. 0 };
+    ghost output = { sure_output };
 
     fn put(&mut self, bytes: &[u8]) -> Result<(), SinkFault> {
         self.bytes.extend_from_slice(bytes)?;

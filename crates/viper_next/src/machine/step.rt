@@ -1,31 +1,35 @@
 //! One step of the machine. The numbers of rules are those of docs/MACHINE.md, "One step".
 
-ghost use Rattle.std.specs.Prelude.{◌≡◌, ◌<◌, ◌^◌, ◌-◌, not, ◌&&◌, true, false, IfOk, IfErr, OnOk, OnErr};
+ghost use Rattle.std.specs.Prelude.{◌≡◌, ◌<◌, ◌^◌, ◌-◌, not, ◌&&◌, true, false};
+ghost use Rattle.std.specs.Prelude.{IfOk, IfErr, OnOk, OnErr};
 ghost use Rattle.viper_word.specs.Fields.{is_illegal, is_function, is_shift, has_address, is_jump};
-ghost use Rattle.viper_word.specs.Machine.{IsState, current, register, address, is_lawful, operand, computed, written, finished, performed, executed, step, next};
-ghost use Rattle.viper_next.specs.Effects.{effect_at, effect_of};
+ghost use Rattle.viper_word.specs.Machine.{IsState, current, register, address, is_lawful, operand};
+ghost use Rattle.viper_word.specs.Machine.{written, finished, next};
+ghost use Rattle.viper_decode.specs.Instructions.{HasWork};
+ghost use Rattle.viper_next.specs.Effects.{effect_at, effect_of, outcome_of};
+ghost use Rattle.viper_next.specs.Profiled.{step_on, executed_on, performed_on};
 
 use super::Machine;
-use crate::computing::{Computed, compared, compute};
+use crate::computing::{Computed, apply, compared, shift};
 use crate::effect::Effect;
 use crate::instruction::is_skipped;
 use viper_decode::{
-    Fields, decode, destination, function, has_address, is_function, is_input, is_jump, is_output,
-    legal, mode, register,
+    Fields, Instruction, Work, decode, destination, function, has_address, instruction, is_input,
+    is_jump, legal, mode, register,
 };
 use viper_word::{Addr, Cause, Word};
 
 impl Machine {
     /// The numbers of the word at P.
     pub(super) fn current(&self) -> Fields
-        ensures { result ≡ current self.now }
+        ensures { result ≡ current self.now.state }
     {
         decode(self.word_at(self.p))
     }
 
     /// The value of a register: A, X, Y, or the address after P.
     fn register(&self, r: u8) -> Word
-        ensures { result.0 ≡ register self.now r }
+        ensures { result.0 ≡ register self.now.state r }
     {
         match r {
             register::A => self.a,
@@ -37,7 +41,7 @@ impl Machine {
 
     /// The effective address of an instruction: the field, or the field plus X or Y modulo 2^32.
     pub(super) fn address(&self, i: Fields) -> u32
-        ensures { result ≡ address i self.now }
+        ensures { result ≡ address i self.now.state }
     {
         match i.m {
             mode::AT_FIELD_PLUS_X => i.field.get().wrapping_add(self.x.0),
@@ -49,8 +53,8 @@ impl Machine {
     /// The operand: the literal, the peripheral's answer, or the word of memory at the address. A
     /// shift has none, and nothing is fetched for it.
     fn operand(&self, i: Fields, answer: Word) -> Word
-        requires { (has_address i && not (is_lawful (address i self.now))) ≡ false }
-        ensures { is_shift i ≡ false → result.0 ≡ operand i self.now answer.0 }
+        requires { (has_address i && not (is_lawful (address i self.now.state))) ≡ false }
+        ensures { is_shift i ≡ false → result.0 ≡ operand i self.now.state answer.0 }
     {
         if !has_address(i) {
             Word(i.field.get())
@@ -61,24 +65,31 @@ impl Machine {
         }
     }
 
-    /// What the function of a legal instruction comes to. None exactly where its operation stops.
-    #[tactic(auto, using(crate::proofs::FunctionLemmas::legal_function, crate::proofs::FunctionLemmas::computed_alike))]
-    fn outcome(&self, i: Fields, answer: Word) -> Option<Computed>
+    /// What the work of a legal instruction comes to. None exactly where its operation stops.
+    #[tactic(auto, using(crate::proofs::FunctionLemmas::applied_is, crate::proofs::FunctionLemmas::shifted_is))]
+    fn outcome(&self, i: Fields, work: Work, answer: Word) -> Option<Computed>
         requires function { is_function i ≡ true }
-        requires legal { is_illegal i ≡ false }
-        requires lawful { (has_address i && not (is_lawful (address i self.now))) ≡ false }
-        ensures { result ≡ computed i (register self.now i.r) (operand i self.now answer.0) self.now.b }
+        requires work { HasWork i work }
+        requires lawful { (has_address i && not (is_lawful (address i self.now.state))) ≡ false }
+        ensures { result ≡ outcome_of self.now.profile i self.now.state answer.0 }
     {
-        compute(i, self.register(i.r), self.operand(i, answer), self.b)
+        let r = self.register(i.r);
+        match work {
+            Work::Apply(function, ..) => {
+                apply(self.profile, function, r, self.operand(i, answer), self.b)
+            }
+            Work::Move(kind, _) => shift(self.profile, kind, r, self.b),
+        }
     }
 
     /// Runs one instruction, with the peripheral's answer, which is looked at only where `wants` gave
     /// an address. A stopped machine is quiet and stays as it is.
     #[tactic(auto, using(crate::proofs::EffectLemmas::effect_known), unfolding(viper_word::specs::Machine::next, crate::specs::Effects::effect_of, crate::specs::Effects::effect_of_step))]
     pub fn step(&mut self, answer: Word) -> Effect
-        ensures next { self.new ≡ next self.old answer.0 }
-        ensures effect { result ≡ effect_of self.old answer.0 }
-        ensures state { IsState self.new }
+        ensures profile { self.new.profile ≡ self.old.profile }
+        ensures next { self.new.state ≡ next self.old.profile self.old.state answer.0 }
+        ensures effect { result ≡ effect_of self.old.profile self.old.state answer.0 }
+        ensures state { IsState self.new.state }
     {
         if self.stop {
             return Effect::Quiet;
@@ -97,9 +108,10 @@ impl Machine {
     /// stops: then nothing has changed.
     #[tactic(auto, unfolding(viper_word::specs::Machine::step))]
     fn advance(&mut self, answer: Word) -> Result<Effect, Cause>
-        ensures done { OnOk result (step self.old answer.0 ≡ Ok self.new) }
-        ensures effect { IfOk result (λ e. e ≡ effect_at (current self.old) self.old) }
-        ensures stops { IfErr result (λ cause. step self.old answer.0 ≡ Err cause) }
+        ensures profile { self.new.profile ≡ self.old.profile }
+        ensures done { OnOk result (step_on self.old answer.0 ≡ Ok self.new.state) }
+        ensures effect { IfOk result (λ e. e ≡ effect_at (current self.old.state) self.old.state) }
+        ensures stops { IfErr result (λ cause. step_on self.old answer.0 ≡ Err cause) }
         ensures kept { OnErr result (self.new ≡ self.old) }
     {
         // 1. P is the last address
@@ -113,10 +125,11 @@ impl Machine {
     /// to 4.
     #[tactic(auto, unfolding(viper_word::specs::Machine::executed, crate::specs::Effects::effect_at))]
     fn execute(&mut self, i: Fields, answer: Word) -> Result<Effect, Cause>
-        requires goes_on { self.old.p < 2 ^ 20 - 1 }
-        ensures done { OnOk result (executed i self.old answer.0 ≡ Ok self.new) }
-        ensures effect { IfOk result (λ e. e ≡ effect_at i self.old) }
-        ensures stops { IfErr result (λ cause. executed i self.old answer.0 ≡ Err cause) }
+        requires goes_on { self.old.state.p < 2 ^ 20 - 1 }
+        ensures profile { self.new.profile ≡ self.old.profile }
+        ensures done { OnOk result (executed_on self.old i answer.0 ≡ Ok self.new.state) }
+        ensures effect { IfOk result (λ e. e ≡ effect_at i self.old.state) }
+        ensures stops { IfErr result (λ cause. executed_on self.old i answer.0 ≡ Err cause) }
         ensures kept { OnErr result (self.new ≡ self.old) }
     {
         // 2. the word is illegal
@@ -137,43 +150,60 @@ impl Machine {
 
     /// Performs an instruction that is legal, isn't skipped, and has no unlawful address: rules 5 to 7
     /// for a function, and rule 7 for a comparison, an output and a store.
-    #[tactic(auto, unfolding(viper_word::specs::Machine::performed, crate::specs::Effects::effect_at))]
+    #[tactic(auto, unfolding(viper_word::specs::Machine::performed, viper_word::specs::Machine::compared, crate::specs::Effects::effect_at))]
     fn perform(&mut self, i: Fields, answer: Word) -> Result<Effect, Cause>
-        requires goes_on { self.old.p < 2 ^ 20 - 1 }
+        requires goes_on { self.old.state.p < 2 ^ 20 - 1 }
         requires legal { is_illegal i ≡ false }
-        requires lawful { (has_address i && not (is_lawful (address i self.old))) ≡ false }
-        ensures done { OnOk result (performed i self.old answer.0 ≡ Ok self.new) }
-        ensures effect { IfOk result (λ e. e ≡ effect_at i self.old) }
-        ensures stops { IfErr result (λ cause. performed i self.old answer.0 ≡ Err cause) }
+        requires lawful { (has_address i && not (is_lawful (address i self.old.state))) ≡ false }
+        ensures profile { self.new.profile ≡ self.old.profile }
+        ensures done { OnOk result (performed_on self.old i answer.0 ≡ Ok self.new.state) }
+        ensures effect { IfOk result (λ e. e ≡ effect_at i self.old.state) }
+        ensures stops { IfErr result (λ cause. performed_on self.old i answer.0 ≡ Err cause) }
         ensures kept { OnErr result (self.new ≡ self.old) }
     {
-        if i.c {
-            self.b = compared(i, self.register(i.r), self.operand(i, answer), self.b);
-            self.p = self.p.next();
-            return Ok(Effect::Quiet);
+        match instruction(i) {
+            Instruction::Compare(joins, kind, ..) => {
+                let (r, m) = (self.register(i.r), self.operand(i, answer));
+                self.b = compared(joins, kind, r, m, self.b);
+                self.p = self.p.next();
+                Ok(Effect::Quiet)
+            }
+            Instruction::Assign(_, work) | Instruction::Jump(_, work) => {
+                self.finish(i, self.outcome(i, work, answer))?;
+                Ok(Effect::Quiet)
+            }
+            Instruction::Output(..) => {
+                let (at, word) = self.given(i);
+                self.p = self.p.next();
+                Ok(Effect::Out(at, word))
+            }
+            Instruction::Store(..) => {
+                let (at, word) = self.given(i);
+                self.p = self.p.next();
+                self.load(at, word);
+                Ok(Effect::Wrote(at, word))
+            }
         }
-        if is_function(i) {
-            self.finish(i, self.outcome(i, answer))?;
-            return Ok(Effect::Quiet);
-        }
-        let at = Addr::new(self.address(i)).unwrap();
-        let word = self.register(i.r);
-        self.p = self.p.next();
-        if is_output(i) {
-            return Ok(Effect::Out(at, word));
-        }
-        self.load(at, word);
-        Ok(Effect::Wrote(at, word))
+    }
+
+    /// The address of an output or a store, and the word that goes there.
+    fn given(&self, i: Fields) -> (Addr, Word)
+        requires { is_lawful (address i self.now.state) ≡ true }
+        ensures at { result.0 ≡ address i self.now.state }
+        ensures word { result.1.0 ≡ register self.now.state i.r }
+    {
+        (Addr::new(self.address(i)).unwrap(), self.register(i.r))
     }
 
     /// Writes what a function came to, unless its operation stops or the target of a jump isn't
     /// lawful: rules 5 to 7.
     #[tactic(auto, unfolding(viper_word::specs::Machine::finished))]
     fn finish(&mut self, i: Fields, computed: Option<Computed>) -> Result<(), Cause>
-        requires goes_on { self.old.p < 2 ^ 20 - 1 }
+        requires goes_on { self.old.state.p < 2 ^ 20 - 1 }
         requires function { is_function i ≡ true }
-        ensures done { OnOk result (finished i self.old computed ≡ Ok self.new) }
-        ensures stops { IfErr result (λ cause. finished i self.old computed ≡ Err cause) }
+        ensures profile { self.new.profile ≡ self.old.profile }
+        ensures done { OnOk result (finished i self.old.state computed ≡ Ok self.new.state) }
+        ensures stops { IfErr result (λ cause. finished i self.old.state computed ≡ Err cause) }
         ensures kept { OnErr result (self.new ≡ self.old) }
     {
         // 5. the operation stops
@@ -192,10 +222,11 @@ impl Machine {
     /// Writes a result and B, the link of a CALL into Y, and P.
     #[tactic(auto, unfolding(viper_word::specs::Machine::written))]
     fn write(&mut self, i: Fields, computed: Computed)
-        requires goes_on { self.old.p < 2 ^ 20 - 1 }
+        requires goes_on { self.old.state.p < 2 ^ 20 - 1 }
         requires lawful { (is_jump i && not (is_lawful computed.value)) ≡ false }
         requires function { is_function i ≡ true }
-        ensures { self.new ≡ written i self.old computed }
+        ensures profile { self.new.profile ≡ self.old.profile }
+        ensures written { self.new.state ≡ written i self.old.state computed }
     {
         let after = self.p.next();
         if i.f == function::CALL {

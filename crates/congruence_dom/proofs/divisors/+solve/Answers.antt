@@ -1,5 +1,5 @@
 use Rattle.std.proofs.Common.{arith, ◌<◌}
-use Rattle.congruence_dom.specs.Solutions.{missing, lifted, lowered, lifted_least}
+use Rattle.congruence_dom.specs.evidence.Solutions.{missing, lifted, lowered, lifted_least}
 use Rattle.congruence_dom.proofs.divisors.+solve.Goals as goal
 
 pub returns-in_err-part-clause-least : goal.returns-in_err-part-clause-least

@@ -1,6 +1,6 @@
 use Rattle.std.proofs.Common.{arith}
 use Rattle.std.proofs.lemmas.Nat.Gcd.{IsGcd-from_zero, IsGcd-from_mod, same_from_IsGcd}
-use Rattle.congruence_dom.specs.Gcd.{gcd_is}
+use Rattle.viper_word.proofs.Gcd.{gcd_is}
 use Rattle.congruence_dom.proofs.divisors.gcd_of.Goals as goal
 
 pub loop-y-preserved : goal.loop-y-preserved

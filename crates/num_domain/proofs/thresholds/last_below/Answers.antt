@@ -1,6 +1,6 @@
 use Rattle.std.proofs.Common.{arith, ◌≡◌, pos, slice_index_or, to_z, of_z, w64, ◌∙◌, ◌-◌, ◌/◌, ℕ}
 use Rattle.std.proofs.lemmas.Int.{ints}
-use Rattle.num_domain.specs.Tests.{le_false}
+use Rattle.viper_word.proofs.Integers.{le_false}
 use Rattle.num_domain.proofs.ThresholdLemmas.{threshold_signed, below_is}
 use Rattle.num_domain.proofs.thresholds.last_below.Goals as goal
 

@@ -1,18 +1,33 @@
-use Rattle.viper_top.proofs.Done.{row_done}
-use Rattle.viper_top.proofs.Endings.{row_refused, ends_by, usage_by, complete_by}
+use Rattle.viper_top.specs.Orders.{Check, Run}
+use Rattle.viper_top.proofs.RunHeadline.{worked, followed}
+use Rattle.viper_top.proofs.Apart.{of_order, ends_by, usage_by, complete_by}
+use Rattle.viper_top.proofs.Headlines.{verified, declined, ends_as}
 use Rattle.viper_top.proofs.top.viper_main.Goals as goal
 
-pub returns-clause-done : goal.returns-clause-done
-returns-clause-done g c = λ done. row_done _ _ _ _ _ c.answer_words.result _ _ done (c.answer_words.ensures.answered (rw done tt))
+pub returns-clause-check_done : goal.returns-clause-check_done
+returns-clause-check_done g c = λ image plan cert order done.
+    verified image plan cert _ _ _ _ (rw done at (of_order _ (Check image plan cert) _ order (c.answer_words.ensures.answered (rw done tt))))
 
-pub returns-clause-refused : goal.returns-clause-refused
-returns-clause-refused g c = λ refused. row_refused _ _ _ _ _ c.answer_words.result _ _ refused (c.answer_words.ensures.answered (rw refused tt))
+pub returns-clause-check_refused : goal.returns-clause-check_refused
+returns-clause-check_refused g c = λ image plan cert order refused.
+    declined image plan cert _ _ _ _ (rw refused at (of_order _ (Check image plan cert) _ order (c.answer_words.ensures.answered (rw refused tt))))
+
+pub returns-clause-check_complete : goal.returns-clause-check_complete
+returns-clause-check_complete g c = λ image plan cert lines certificate order given nothing enough.
+    ends_as image plan cert _ lines certificate _ _ _ given
+    (complete_by _ (Check image plan cert) c.answer_words.result _ _ _ _ (λ usage. (c.answer_words.ensures.usage usage).0) c.answer_words.ensures.answered c.answer_words.ensures.outside order given.told nothing enough)
+
+pub returns-clause-run_ends : goal.returns-clause-run_ends
+returns-clause-run_ends g c = λ image plan script steps order ends.
+    let w = worked c.answer_words.result ends in
+    followed image plan script steps _ _ c.answer_words.result _ _ w.1 (of_order _ (Run image plan script steps) _ order (c.answer_words.ensures.answered w.0))
 
 pub returns-clause-usage_where : goal.returns-clause-usage_where
-returns-clause-usage_where g c = usage_by _ _ _ _ _ c.answer_words.result _ _ _ _ _ _ c.answer_words.ensures.answered c.answer_words.ensures.outside
+returns-clause-usage_where g c = usage_by _ c.answer_words.result _ _ _ _ c.answer_words.ensures.answered c.answer_words.ensures.outside
 
 pub returns-clause-ends : goal.returns-clause-ends
 returns-clause-ends g c = ends_by _ c.answer_words.result _ _ _ _ (λ usage. (c.answer_words.ensures.usage usage).0) c.answer_words.ensures.outside
 
 pub returns-clause-complete : goal.returns-clause-complete
-returns-clause-complete g c = complete_by _ _ _ _ _ c.answer_words.result _ _ _ _ _ _ c.answer_words.ensures.answered c.answer_words.ensures.usage c.answer_words.ensures.outside
+returns-clause-complete g c = λ order.
+    complete_by _ order c.answer_words.result _ _ _ _ (λ usage. (c.answer_words.ensures.usage usage).0) c.answer_words.ensures.answered c.answer_words.ensures.outside

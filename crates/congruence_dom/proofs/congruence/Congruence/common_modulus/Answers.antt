@@ -1,7 +1,7 @@
 use Rattle.std.proofs.Common.{arith, ◌≡◌, ◌∙◌}
 use Rattle.std.proofs.Math.Path.{ap₂}
-use Rattle.congruence_dom.specs.Congruences.{mod_of}
-use Rattle.congruence_dom.specs.Gcd.{gcd}
+use Rattle.congruence_dom.specs.Residues.{mod_of}
+use Rattle.viper_word.specs.Divisors.{gcd}
 use Rattle.congruence_dom.proofs.CongruenceCode.{gcd_small}
 use Rattle.congruence_dom.proofs.congruence.Congruence.common_modulus.Goals as goal
 

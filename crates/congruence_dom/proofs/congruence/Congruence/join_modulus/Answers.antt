@@ -2,8 +2,9 @@ use Rattle.std.proofs.Common.{arith, ap, ◌∙◌, ◌≡◌, ◌-ℤ◌, to_z,
 use Rattle.std.proofs.Math.Path.{ap₂}
 use Rattle.std.proofs.lemmas.Int.{ints}
 use Rattle.std.specs.Prelude.{nat_abs}
-use Rattle.congruence_dom.specs.Congruences.{mod_of, join_modulus, join_modulus_le}
-use Rattle.congruence_dom.specs.Gcd.{gcd}
+use Rattle.congruence_dom.specs.Residues.{mod_of, join_modulus}
+use Rattle.congruence_dom.specs.evidence.Forms.{join_modulus_le}
+use Rattle.viper_word.specs.Divisors.{gcd}
 use Rattle.congruence_dom.specs.declared.congruence.Congruence.{Congruence}
 use Rattle.congruence_dom.proofs.congruence.Congruence.join_modulus.Goals as goal
 

@@ -1,11 +1,12 @@
-use Rattle.std.proofs.Common.{arith, refl, ap, ◌∙◌, ◌≡◌, ℤ, pos, to_z, of_z, w64}
+use Rattle.std.proofs.Common.{arith, refl, sym, subst, ap, ◌∙◌, ◌≡◌, ℤ, true, false, pos, to_z, of_z, w64}
 use Rattle.std.proofs.lemmas.Int.{ints}
-use Rattle.viper_word.specs.Words.{least_signed, greatest_signed}
-use Rattle.num_domain.specs.Tests.{le_false, le_true}
-use Rattle.congruence_dom.specs.Congruences.{reduce, reduced_form, next_from}
-use Rattle.congruence_dom.proofs.CongruenceCode.{make_small, make_large, make_none, large_from, out_of_w, form_at}
+use Rattle.viper_word.specs.Words.{least_signed, IsSigned, is_signed}
+use Rattle.viper_word.proofs.Integers.{is_signed_true}
+use Rattle.congruence_dom.specs.Residues.{reduce, next_from}
+use Rattle.congruence_dom.specs.evidence.Forms.{reduced_form}
+use Rattle.congruence_dom.proofs.CongruenceCode.{make_small, make_large, make_none, large_from, form_at}
 use Rattle.congruence_dom.proofs.congruence.Congruence.make.Goals as goal
-use Rattle.congruence_dom.proofs.congruence.Congruence.make.Goals.{else-m-gt0-via-then-m-gt0+else-m-le-GREATEST_MODULUS, else-m-gt0-via-else-m-gt0, else-only-ge-LEAST_SIGNED-via-then-only-ge-LEAST_SIGNED+else-only-le-GREATEST_SIGNED, else-only-ge-LEAST_SIGNED-via-else-only-ge-LEAST_SIGNED}
+use Rattle.congruence_dom.proofs.congruence.Congruence.make.Goals.{else-m-gt0-via-then-m-gt0+else-m-le-GREATEST_MODULUS, else-m-gt0-via-else-m-gt0}
 
 pub invariant_of-result : goal.invariant_of-result
 invariant_of-result c =
@@ -19,25 +20,22 @@ returns-then-m-le-GREATEST_MODULUS c =
     let f : c.reduce.result ≡ reduce c.args.m c.args.z = c.reduce.ensures.value ∙ ap (reduce c.args.m) z in
     make_small c.args.m c.args.z _ c.if-m-gt0.true c.if-m-le-GREATEST_MODULUS.true (omega (arith, ints)) (omega (arith, ints))
 
-pub returns-then-only-le-GREATEST_SIGNED : goal.returns-then-only-le-GREATEST_SIGNED
-returns-then-only-le-GREATEST_SIGNED c =
+pub returns-then-is_signed : goal.returns-then-is_signed
+returns-then-is_signed c =
     let z : to_z w64 (of_z w64 c.args.z) ≡ c.args.z = omega (arith, ints) in
     let f : c.next_from-only.result ≡ next_from c.args.m c.args.z least_signed = c.next_from-only.ensures ∙ ap (λ (x : ℤ). next_from c.args.m x least_signed) z in
     let g : to_z w64 (of_z w64 c.next_from-only.result) ≡ c.next_from-only.result = omega (arith, ints) in
-    let lo = le_true least_signed (to_z w64 (of_z w64 c.next_from-only.result)) c.if-only-ge-LEAST_SIGNED.true in
-    let hi = le_true (to_z w64 (of_z w64 c.next_from-only.result)) greatest_signed c.if-only-le-GREATEST_SIGNED.true in
+    let fits : is_signed (to_z w64 (of_z w64 c.next_from-only.result)) ≡ true = sym c.is_signed.ensures ∙ c.if-is_signed.true in
     make_large c.args.m c.args.z _
     (large_from c.args.m (λ p q. elim c.else-m-gt0.branch [ else-m-gt0-via-then-m-gt0+else-m-le-GREATEST_MODULUS w ↦ omega arith | else-m-gt0-via-else-m-gt0 w ↦ omega arith ]))
-    (record { low = omega (arith, ints, f, g, lo); high = omega (arith, ints, f, g, hi) }) refl (g ∙ f)
+    (subst IsSigned (g ∙ f) (is_signed_true (to_z w64 (of_z w64 c.next_from-only.result)) fits)) refl (g ∙ f)
 
-pub returns-else-only-ge-LEAST_SIGNED : goal.returns-else-only-ge-LEAST_SIGNED
-returns-else-only-ge-LEAST_SIGNED c =
+pub returns-else-is_signed : goal.returns-else-is_signed
+returns-else-is_signed c =
     let z : to_z w64 (of_z w64 c.args.z) ≡ c.args.z = omega (arith, ints) in
     let f : c.next_from-only.result ≡ next_from c.args.m c.args.z least_signed = c.next_from-only.ensures ∙ ap (λ (x : ℤ). next_from c.args.m x least_signed) z in
     let g : to_z w64 (of_z w64 c.next_from-only.result) ≡ c.next_from-only.result = omega (arith, ints) in
+    let none : is_signed (to_z w64 (of_z w64 c.next_from-only.result)) ≡ false = sym c.is_signed.ensures ∙ c.if-is_signed.false in
     make_none c.args.m c.args.z
     (large_from c.args.m (λ p q. elim c.else-m-gt0.branch [ else-m-gt0-via-then-m-gt0+else-m-le-GREATEST_MODULUS w ↦ omega arith | else-m-gt0-via-else-m-gt0 w ↦ omega arith ]))
-    (out_of_w (next_from c.args.m c.args.z least_signed) (λ p q. elim c.else-only-ge-LEAST_SIGNED.branch [
-      | else-only-ge-LEAST_SIGNED-via-then-only-ge-LEAST_SIGNED+else-only-le-GREATEST_SIGNED w ↦ let l = le_false (to_z w64 (of_z w64 c.next_from-only.result)) greatest_signed w.if-only-le-GREATEST_SIGNED.false in omega (arith, ints)
-      | else-only-ge-LEAST_SIGNED-via-else-only-ge-LEAST_SIGNED w ↦ let l = le_false least_signed (to_z w64 (of_z w64 c.next_from-only.result)) w.if-only-ge-LEAST_SIGNED.false in omega (arith, ints)
-    ]))
+    (subst (λ (y : ℤ). is_signed y ≡ false) (g ∙ f) none)

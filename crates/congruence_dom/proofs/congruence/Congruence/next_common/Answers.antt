@@ -1,6 +1,6 @@
 use Rattle.std.proofs.Common.{arith, ◌≡◌, subst, ℤ, to_z, of_z, w64}
 use Rattle.std.proofs.lemmas.Int.{ints}
-use Rattle.congruence_dom.specs.CommonMembers.{IsNextCommon}
+use Rattle.congruence_dom.specs.evidence.CommonMembers.{IsNextCommon}
 use Rattle.congruence_dom.proofs.CommonCode.{next_swapped}
 use Rattle.congruence_dom.proofs.congruence.Congruence.next_common.Goals as goal
 

@@ -1,6 +1,6 @@
 use Rattle.std.proofs.Common.{arith, ap, ◌∙◌, ◌≡◌, ℤ, ◌+ℤ◌, ◌-ℤ◌, to_z, of_z, w64}
 use Rattle.std.proofs.lemmas.Int.{ints}
-use Rattle.congruence_dom.specs.Congruences.{reduce}
+use Rattle.congruence_dom.specs.Residues.{reduce}
 use Rattle.congruence_dom.proofs.congruence.Congruence.next_from.Goals as goal
 
 pub returns : goal.returns

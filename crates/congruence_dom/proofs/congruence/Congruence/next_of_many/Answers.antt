@@ -1,8 +1,8 @@
 use Rattle.std.proofs.Common.{arith, ◌≡◌, ◌+ℤ◌, ◌-ℤ◌, ap, sym, subst, ℤ, pos, to_z, of_z, w64, Option}
 use Rattle.std.proofs.lemmas.Int.{ints}
 use Rattle.std.specs.Prelude.{None, Some, ℕ, ◌*◌, nat_abs}
-use Rattle.congruence_dom.specs.Congruences.{mod_of}
-use Rattle.congruence_dom.specs.CommonMembers.{IsNextCommon}
+use Rattle.congruence_dom.specs.Residues.{mod_of}
+use Rattle.congruence_dom.specs.evidence.CommonMembers.{IsNextCommon}
 use Rattle.congruence_dom.proofs.CommonCode.{gap_code, fits_small, solved, unsolved, one_none, least_signed_at, many_unsolved, many_found, many_beyond}
 use Rattle.congruence_dom.proofs.congruence.Congruence.next_of_many.Goals as goal
 

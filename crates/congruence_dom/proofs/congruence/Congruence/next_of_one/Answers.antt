@@ -1,7 +1,7 @@
 use Rattle.std.proofs.Common.{arith, ◌≡◌, ap, sym, subst, ℤ, to_z, of_z, w64, Option}
 use Rattle.std.proofs.lemmas.Int.{ints}
 use Rattle.std.specs.Prelude.{None, Some}
-use Rattle.congruence_dom.specs.CommonMembers.{IsNextCommon}
+use Rattle.congruence_dom.specs.evidence.CommonMembers.{IsNextCommon}
 use Rattle.congruence_dom.proofs.CommonCode.{one_none, one_missed, one_found, one_apart, least_signed_at}
 use Rattle.congruence_dom.proofs.congruence.Congruence.next_of_one.Goals as goal
 

@@ -2,7 +2,7 @@ use Rattle.std.proofs.Common.{arith, sym, ◌∙◌, ◌≡◌, pos, to_z, of_z,
 use Rattle.std.proofs.Math.Path.{ap₂}
 use Rattle.std.proofs.lemmas.Int.{ints}
 use Rattle.std.specs.Int.{int_rem_euclid}
-use Rattle.congruence_dom.specs.Congruences.{reduce_else, reduce_zero}
+use Rattle.congruence_dom.specs.evidence.Forms.{reduce_else, reduce_zero}
 use Rattle.congruence_dom.proofs.congruence.Congruence.reduce.Goals as goal
 
 pub returns-then-m-eq0-clause-value : goal.returns-then-m-eq0-clause-value

@@ -1,6 +1,6 @@
 use Rattle.std.proofs.Common.{arith}
 use Rattle.std.proofs.Math.Nat.{le_of_dvd}
-use Rattle.congruence_dom.specs.Gcd.{gcd_right}
+use Rattle.viper_word.proofs.Gcd.{gcd_right}
 use Rattle.congruence_dom.proofs.congruence.Congruence.within_word.Goals as goal
 
 pub returns-clause-small : goal.returns-clause-small

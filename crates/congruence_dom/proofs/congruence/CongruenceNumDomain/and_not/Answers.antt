@@ -12,4 +12,4 @@ returns-then-are_single c =
     let b = c.args.other.now.form in
     let w = c.and_not.ensures.in_range in
     let z : c.and_not.result ≡ signed_and_not c.args.self.now.residue c.args.other.now.residue = c.and_not.ensures.value ∙ ap₂ signed_and_not (omega (arith, ints)) (omega (arith, ints)) in
-    then_exact signed_and_not no_row c.args.self.now c.args.other.now c.single.result c.and_not.result (sym c.are_single.ensures ∙ c.if-are_single.true) (c.single.ensures ∙ ap constant (omega (arith, ints))) z w
+    then_exact signed_and_not no_row c.args.self.now c.args.other.now c.only.result c.and_not.result (sym c.are_single.ensures ∙ c.if-are_single.true) (c.only.ensures ∙ ap constant (omega (arith, ints))) z w

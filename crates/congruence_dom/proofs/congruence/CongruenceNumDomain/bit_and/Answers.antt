@@ -12,4 +12,4 @@ returns-then-are_single c =
     let b = c.args.other.now.form in
     let w = c.and.ensures.in_range in
     let z : c.and.result ≡ signed_and c.args.self.now.residue c.args.other.now.residue = c.and.ensures.value ∙ ap₂ signed_and (omega (arith, ints)) (omega (arith, ints)) in
-    then_exact signed_and no_row c.args.self.now c.args.other.now c.single.result c.and.result (sym c.are_single.ensures ∙ c.if-are_single.true) (c.single.ensures ∙ ap constant (omega (arith, ints))) z w
+    then_exact signed_and no_row c.args.self.now c.args.other.now c.only.result c.and.result (sym c.are_single.ensures ∙ c.if-are_single.true) (c.only.ensures ∙ ap constant (omega (arith, ints))) z w

@@ -1,8 +1,10 @@
 use Rattle.std.proofs.Common.{arith, ◌∙◌, ◌≡◌, to_z, of_z, w64}
 use Rattle.std.proofs.Math.Path.{ap₂}
 use Rattle.std.proofs.lemmas.Int.{ints}
-use Rattle.congruence_dom.specs.Congruences.{reduce, join, join_form, join_modulus}
-use Rattle.congruence_dom.specs.CongruenceOrder.{same_parts}
+use Rattle.congruence_dom.specs.Residues.{reduce, join_modulus}
+use Rattle.congruence_dom.specs.evidence.Forms.{join_form}
+use Rattle.congruence_dom.specs.Congruences.{join}
+use Rattle.congruence_dom.specs.evidence.CongruenceOrder.{same_parts}
 use Rattle.congruence_dom.proofs.CongruenceCode.{form_at}
 use Rattle.congruence_dom.proofs.congruence.CongruenceNumDomain.join.Goals as goal
 

@@ -1,7 +1,7 @@
 use Rattle.std.proofs.Common.{arith, ◌∙◌, ap}
 use Rattle.std.proofs.Math.Path.{ap₂}
 use Rattle.std.proofs.lemmas.Int.{ints}
-use Rattle.congruence_dom.specs.Gcd.{gcd}
+use Rattle.viper_word.specs.Divisors.{gcd}
 use Rattle.std.specs.Prelude.{ℕ}
 use Rattle.congruence_dom.specs.Congruences.{make}
 use Rattle.congruence_dom.proofs.congruence.CongruenceNumDomain.neg.Goals as goal

@@ -1,5 +1,5 @@
 use Rattle.std.proofs.Common.{subst, sym, ◌∙◌, Option, IfSome}
-use Rattle.congruence_dom.specs.CommonMembers.{AreCommonMembers}
+use Rattle.congruence_dom.specs.evidence.CommonMembers.{AreCommonMembers}
 use Rattle.congruence_dom.specs.declared.congruence.Congruence.{Congruence}
 use Rattle.congruence_dom.proofs.CommonRow.{common_row, common_none}
 use Rattle.congruence_dom.proofs.congruence.CongruenceNumDomain.refine.Goals as goal

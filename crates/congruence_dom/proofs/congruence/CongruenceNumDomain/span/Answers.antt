@@ -1,6 +1,6 @@
 use Rattle.std.proofs.Common.{arith}
 use Rattle.std.proofs.lemmas.Int.{ints}
-use Rattle.congruence_dom.proofs.CongruenceCode.{range_small}
+use Rattle.viper_word.proofs.RangeLemmas.{range_small}
 use Rattle.congruence_dom.proofs.congruence.CongruenceNumDomain.span.Goals as goal
 
 pub make-requires-clause-small : goal.make-requires-clause-small

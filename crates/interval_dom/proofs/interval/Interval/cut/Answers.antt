@@ -1,7 +1,7 @@
 use Rattle.std.proofs.Common.{arith, to_z, of_z, w64}
 use Rattle.std.proofs.lemmas.Int.{ints, clamps}
-use Rattle.num_domain.specs.Tests.{le_false}
-use Rattle.interval_dom.specs.IntervalOrder.{cut_is, cut_none}
+use Rattle.viper_word.proofs.Integers.{le_false}
+use Rattle.interval_dom.specs.evidence.IntervalOrder.{cut_is, cut_none}
 use Rattle.interval_dom.proofs.interval.Interval.cut.Goals as goal
 
 pub returns-then-lo-hi : goal.returns-then-lo-hi

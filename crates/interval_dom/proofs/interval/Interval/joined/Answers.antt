@@ -1,7 +1,7 @@
 use Rattle.std.proofs.Common.{arith}
 use Rattle.std.proofs.lemmas.Int.{ints, clamps}
 use Rattle.interval_dom.specs.Intervals.{join}
-use Rattle.interval_dom.specs.IntervalOrder.{same_ends}
+use Rattle.interval_dom.specs.evidence.IntervalOrder.{same_ends}
 use Rattle.interval_dom.proofs.interval.Interval.joined.Goals as goal
 
 pub invariant_of-result : goal.invariant_of-result

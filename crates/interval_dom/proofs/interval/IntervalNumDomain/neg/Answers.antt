@@ -11,7 +11,7 @@ returns-then-is_single c =
     let a = c.args.self.now.ends in
     let w = c.wrapped_difference.ensures.in_range in
     let z : c.wrapped_difference.result ≡ wrapped (neg_ℤ c.args.self.now.lo) = c.wrapped_difference.ensures.value ∙ ap wrapped (omega (arith, ints)) in
-    then_exact1 (λ x. wrapped (neg_ℤ x)) (λ a. unwrapped (neg_ℤ a.hi) (neg_ℤ a.lo)) c.args.self.now c.single.result c.wrapped_difference.result (sym c.is_single.ensures ∙ c.if-is_single.true) (c.single.ensures ∙ ap constant (omega (arith, ints))) z w
+    then_exact1 (λ x. wrapped (neg_ℤ x)) (λ a. unwrapped (neg_ℤ a.hi) (neg_ℤ a.lo)) c.args.self.now c.only.result c.wrapped_difference.result (sym c.is_single.ensures ∙ c.if-is_single.true) (c.only.ensures ∙ ap constant (omega (arith, ints))) z w
 
 pub returns-else-is_single : goal.returns-else-is_single
 returns-else-is_single c =

@@ -12,4 +12,4 @@ returns-then-are_single c =
     let b = c.args.other.now.ends in
     let w = c.nor.ensures.in_range in
     let z : c.nor.result ≡ signed_nor c.args.self.now.lo c.args.other.now.lo = c.nor.ensures.value ∙ ap₂ signed_nor (omega (arith, ints)) (omega (arith, ints)) in
-    then_exact signed_nor nor_row c.args.self.now c.args.other.now c.single.result c.nor.result (sym c.are_single.ensures ∙ c.if-are_single.true) (c.single.ensures ∙ ap constant (omega (arith, ints))) z w
+    then_exact signed_nor nor_row c.args.self.now c.args.other.now c.only.result c.nor.result (sym c.are_single.ensures ∙ c.if-are_single.true) (c.only.ensures ∙ ap constant (omega (arith, ints))) z w

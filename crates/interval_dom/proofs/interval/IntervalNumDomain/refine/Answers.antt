@@ -1,5 +1,5 @@
 use Rattle.std.proofs.Common.{subst, sym, Option, IfSome}
-use Rattle.interval_dom.specs.IntervalRefine.{AreReached, refine_reached}
+use Rattle.interval_dom.specs.evidence.IntervalRefine.{AreReached, refine_reached}
 use Rattle.interval_dom.specs.declared.interval.Interval.{Interval}
 use Rattle.interval_dom.proofs.interval.IntervalNumDomain.refine.Goals as goal
 

@@ -1,8 +1,9 @@
 use Rattle.std.proofs.Common.{arith, ◌≡◌, ◌∙◌, ap}
 use Rattle.std.proofs.lemmas.Int.{ints}
 use Rattle.num_domain.specs.Rounding.{below, above}
-use Rattle.interval_dom.specs.Intervals.{round_ends, intervals}
-use Rattle.interval_dom.specs.IntervalOrder.{same_ends}
+use Rattle.interval_dom.specs.evidence.Forms.{round_ends}
+use Rattle.interval_dom.specs.Intervals.{intervals}
+use Rattle.interval_dom.specs.evidence.IntervalOrder.{same_ends}
 use Rattle.interval_dom.proofs.interval.IntervalNumDomain.round.Goals as goal
 
 pub invariant_of-result : goal.invariant_of-result

@@ -12,7 +12,7 @@ returns-then-are_single c =
     let b = c.args.other.now.ends in
     let w = c.wrapped_difference.ensures.in_range in
     let z : c.wrapped_difference.result ≡ wrapped (c.args.self.now.lo -ℤ c.args.other.now.lo) = c.wrapped_difference.ensures.value ∙ ap wrapped (omega (arith, ints)) in
-    then_exact (λ x y. wrapped (x -ℤ y)) (λ a b. unwrapped (a.lo -ℤ b.hi) (a.hi -ℤ b.lo)) c.args.self.now c.args.other.now c.single.result c.wrapped_difference.result (sym c.are_single.ensures ∙ c.if-are_single.true) (c.single.ensures ∙ ap constant (omega (arith, ints))) z w
+    then_exact (λ x y. wrapped (x -ℤ y)) (λ a b. unwrapped (a.lo -ℤ b.hi) (a.hi -ℤ b.lo)) c.args.self.now c.args.other.now c.only.result c.wrapped_difference.result (sym c.are_single.ensures ∙ c.if-are_single.true) (c.only.ensures ∙ ap constant (omega (arith, ints))) z w
 
 pub returns-else-are_single : goal.returns-else-are_single
 returns-else-are_single c =

@@ -1,5 +1,5 @@
 use Rattle.val_dom.specs.Normal.{IsNormal}
-use Rattle.val_dom.specs.Vals.{bit_and_normal}
+use Rattle.val_dom.specs.evidence.NormalForms.{bit_and_normal}
 use Rattle.val_dom.proofs.ValCode.{wrap_is, some_of}
 use Rattle.val_dom.proofs.val.ValNumDomain.bit_and.Goals as goal
 

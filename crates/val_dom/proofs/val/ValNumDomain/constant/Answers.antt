@@ -1,8 +1,9 @@
 use Rattle.std.proofs.Common.{◌≡◌, ◌∙◌, ap, sym, subst, arith, to_z, of_z, w64}
 use Rattle.std.proofs.lemmas.Int.{ints}
 use Rattle.val_dom.specs.Normal.{IsNormal}
-use Rattle.val_dom.specs.Vals.{constant_normal, base}
-use Rattle.val_dom.specs.ValLaws.{val_from}
+use Rattle.val_dom.specs.Made.{base}
+use Rattle.val_dom.specs.evidence.NormalForms.{constant_normal}
+use Rattle.val_dom.specs.evidence.ValLaws.{val_from}
 use Rattle.val_dom.proofs.val.ValNumDomain.constant.Goals as goal
 
 pub invariant_of-result : goal.invariant_of-result

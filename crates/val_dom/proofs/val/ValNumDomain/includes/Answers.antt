@@ -1,5 +1,5 @@
 use Rattle.std.proofs.Common.{sym, ◌∙◌}
-use Rattle.val_dom.specs.ValLaws.{val_laws}
+use Rattle.val_dom.specs.evidence.ValLaws.{val_laws}
 use Rattle.val_dom.proofs.ValMembers.{members_below}
 use Rattle.val_dom.proofs.val.ValNumDomain.includes.Goals as goal
 

@@ -1,7 +1,8 @@
 use Rattle.std.proofs.Common.{◌≡◌, ◌∙◌, ap, arith, to_z, of_z, w64}
 use Rattle.std.proofs.lemmas.Int.{ints}
 use Rattle.val_dom.specs.Normal.{IsNormal}
-use Rattle.val_dom.specs.Vals.{moved_normal, base}
+use Rattle.val_dom.specs.Made.{base}
+use Rattle.val_dom.specs.evidence.NormalForms.{moved_normal}
 use Rattle.val_dom.proofs.ValCode.{wrap_is, some_of}
 use Rattle.val_dom.proofs.val.ValNumDomain.moved.Goals as goal
 

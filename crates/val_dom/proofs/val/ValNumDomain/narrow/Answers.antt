@@ -2,7 +2,8 @@ use Rattle.std.proofs.Common.{◌≡◌, ◌∙◌, arith, to_z, of_z, w64}
 use Rattle.std.proofs.Math.Path.{ap₂}
 use Rattle.std.proofs.lemmas.Int.{ints}
 use Rattle.val_dom.specs.Normal.{IsNormal}
-use Rattle.val_dom.specs.Vals.{narrow_normal, base}
+use Rattle.val_dom.specs.Made.{base}
+use Rattle.val_dom.specs.evidence.NormalForms.{narrow_normal}
 use Rattle.val_dom.proofs.ValCode.{wrap_is, some_of}
 use Rattle.val_dom.proofs.val.ValNumDomain.narrow.Goals as goal
 

@@ -1,5 +1,5 @@
 use Rattle.val_dom.specs.Normal.{IsNormal}
-use Rattle.val_dom.specs.Vals.{right_through_normal}
+use Rattle.val_dom.specs.evidence.NormalForms.{right_through_normal}
 use Rattle.val_dom.proofs.ValCode.{wrap_is, some_of}
 use Rattle.val_dom.proofs.val.ValNumDomain.right_through.Goals as goal
 

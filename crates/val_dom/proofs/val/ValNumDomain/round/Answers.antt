@@ -1,7 +1,8 @@
 use Rattle.std.proofs.Common.{sym, subst}
 use Rattle.val_dom.specs.Normal.{IsNormal}
-use Rattle.val_dom.specs.Vals.{round_normal, base}
-use Rattle.val_dom.specs.ValLaws.{val_from}
+use Rattle.val_dom.specs.Made.{base}
+use Rattle.val_dom.specs.evidence.NormalForms.{round_normal}
+use Rattle.val_dom.specs.evidence.ValLaws.{val_from}
 use Rattle.val_dom.proofs.val.ValNumDomain.round.Goals as goal
 
 pub invariant_of-result : goal.invariant_of-result

@@ -1,5 +1,5 @@
 use Rattle.val_dom.specs.Normal.{IsNormal}
-use Rattle.val_dom.specs.Vals.{shl_normal}
+use Rattle.val_dom.specs.evidence.NormalForms.{shl_normal}
 use Rattle.val_dom.proofs.ValCode.{wrap_is, some_of}
 use Rattle.val_dom.proofs.val.ValNumDomain.shl.Goals as goal
 

@@ -2,8 +2,9 @@ use Rattle.std.proofs.Common.{◌≡◌, ◌∙◌, ℤ, ap, sym, subst, arith, 
 use Rattle.std.proofs.Math.Path.{ap₂}
 use Rattle.std.proofs.lemmas.Int.{ints}
 use Rattle.val_dom.specs.Normal.{IsNormal}
-use Rattle.val_dom.specs.Vals.{span_normal, base}
-use Rattle.val_dom.specs.ValLaws.{val_from}
+use Rattle.val_dom.specs.Made.{base}
+use Rattle.val_dom.specs.evidence.NormalForms.{span_normal}
+use Rattle.val_dom.specs.evidence.ValLaws.{val_from}
 use Rattle.val_dom.proofs.val.ValNumDomain.span.Goals as goal
 
 same : (lo hi m lo' hi' m' : ℤ) → lo ≡ lo' → hi ≡ hi' → m ≡ m' → base.span lo hi m ≡ base.span lo' hi' m'

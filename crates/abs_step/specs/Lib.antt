@@ -1,0 +1,13 @@
+pub mod Addresses
+pub mod Writes
+pub mod Results
+pub mod Origins
+pub mod OutcomeLists
+pub mod Stores
+pub mod Outcomes
+pub mod Conditions
+pub mod Laws
+pub mod Posts
+pub mod States
+pub mod Starts
+pub mod StepLaws

@@ -1,0 +1,4 @@
+pub mod NameLemmas
+pub mod SourceLemmas
+pub mod ResolveLemmas
+pub mod OneSource

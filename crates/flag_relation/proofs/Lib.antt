@@ -1,0 +1,14 @@
+pub mod ValueLemmas
+pub mod Refiners
+pub mod SettleLaws
+pub mod AtomLaws
+pub mod FlagLaws
+pub mod JoinLaws
+pub mod AssumeLaws
+pub mod RoundLaws
+pub mod CellLoops
+pub mod FormLemmas
+pub mod OrderLaws
+pub mod EmptinessLaws
+pub mod CoverLaws
+pub mod AllLaws

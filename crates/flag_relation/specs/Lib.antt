@@ -1,0 +1,16 @@
+pub mod Values
+pub mod Facts
+pub mod Equality
+pub mod Order
+pub mod Heights
+pub mod Joins
+pub mod Refining
+pub mod Rounding
+pub mod Emptiness
+pub mod InPlace
+pub mod Limits
+pub mod Padding
+pub mod AtomLists
+pub mod Forms
+pub mod FormLimits
+pub mod Laws

@@ -1,0 +1,218 @@
+-- What a line of right numbers declares fits: addresses are below 2^20, ranges normal, numbers in bounds.
+use Rattle.std.proofs.Common.{◌≡◌, ◌∙◌, ℕ, ◌+◌, ◌*◌, ◌^◌, ◌<◌, ◌≤◌, Bool, true, false, cond, eqb, List, [], ◌∷◌, length, Option, Some, None, refl, subst, arith}
+use Rattle.std.specs.Prelude.{codes, ℤ, pos, ◌≤ℤ◌, ◌&&◌, int_le, unsigned_abs}
+use Rattle.std.specs.Ordering.{int_eq}
+use Rattle.std.proofs.lemmas.Int.{ints}
+use Rattle.std.proofs.lemmas.Option.{none-some, same_Some}
+use Rattle.std.proofs.lemmas.Bool.Decides.{nat_tests}
+use Rattle.hex.specs.Hex.{hex_digit_value}
+use Rattle.viper_word.proofs.Booleans.{guard_some, cond_some}
+use Rattle.viper_word.proofs.Integers.{le_true, is_signed_true}
+use Rattle.viper_word.specs.Words.{IsSigned, is_signed}
+use Rattle.text_lines.specs.Parts.{one, two, three, five, ◌>>=◌}
+use Rattle.memory_plan.specs.Hex.{hex_behind, hex_number}
+use Rattle.viper_word.specs.Ranges.{NumberRange, IsNormal, any_word}
+use Rattle.memory_plan.specs.Numbers.{same_text, number, range_text, range_of, one_of, steps_of, single, several, is_rising, is_step, leads}
+use Rattle.memory_plan.specs.Costs.{cost_name}
+use Rattle.memory_plan.specs.PlanShapes.{profile_shape, code_shape, span_shape, marker_shape, start_shape, threshold_shape, cost_shape, flag_of, shape_by, shape_of, start_of, is_cost, value_of}
+use Rattle.memory_plan.specs.WellFormed.{HasNormalRanges}
+use Rattle.memory_plan.specs.declared.range_text.RangeText.{RangeText}
+use Rattle.memory_plan.specs.declared.range_text.RangeText.TheVariants.{Any, One, Ends, Steps}
+use Rattle.memory_plan.specs.declared.plan_line.Space.{Space}
+use Rattle.memory_plan.specs.declared.plan_line.Space.TheVariants.{Data, Input, Output}
+use Rattle.memory_plan.specs.declared.plan_line.WrittenLine.{WrittenLine}
+use Rattle.memory_plan.specs.declared.plan_line.WrittenLine.TheVariants as written
+use Rattle.memory_plan.specs.declared.plan_line.PlanLine.{PlanLine}
+use Rattle.memory_plan.specs.declared.plan_line.PlanLine.TheVariants as lines
+use Rattle.memory_plan.proofs.HexLemmas.{digit_bound}
+use Rattle.memory_plan.proofs.RangeLemmas.{both_sides, steps_normal, any_normal, single_normal}
+
+pub bound : {A B : Type 0} (m : Option A) (f : A → Option B) (b : B) → (m >>= f) ≡ Some b → (a : A) × (m ≡ Some a) × (f a ≡ Some b)
+bound None f b e = absurd (none-some b e)
+bound (Some a) f b e = (a, refl, e)
+
+-- ---- addresses
+
+-- five digits
+five_small : (a b c d e n : ℕ) → hex_behind 0 (a ∷ b ∷ c ∷ d ∷ e ∷ []) ≡ Some n → n < 2 ^ 20
+five_small a b c d e n h =
+    let p = bound (hex_digit_value a) _ n h in
+    let q = bound (hex_digit_value b) _ n p.2 in
+    let r = bound (hex_digit_value c) _ n q.2 in
+    let s = bound (hex_digit_value d) _ n r.2 in
+    let t = bound (hex_digit_value e) _ n s.2 in
+    let whole : (((((0 * 16 + p.0) * 16 + q.0) * 16 + r.0) * 16 + s.0) * 16 + t.0) ≡ n = same_Some _ n t.2 in
+    let p0 = p.0 in let q0 = q.0 in let r0 = r.0 in let s0 = s.0 in let t0 = t.0 in
+    omega (arith, whole, digit_bound a p0 p.1, digit_bound b q0 q.1, digit_bound c r0 r.1, digit_bound d s0 s.1, digit_bound e t0 t.1)
+
+small_by : (text : List ℕ) (n : ℕ) → length text ≡ 5 → hex_behind 0 text ≡ Some n → n < 2 ^ 20
+small_by [] n l h = absurd (omega (arith, l))
+small_by (a ∷ []) n l h = absurd (omega (arith, l))
+small_by (a ∷ b ∷ []) n l h = absurd (omega (arith, l))
+small_by (a ∷ b ∷ c ∷ []) n l h = absurd (omega (arith, l))
+small_by (a ∷ b ∷ c ∷ d ∷ []) n l h = absurd (omega (arith, l))
+small_by (a ∷ b ∷ c ∷ d ∷ e ∷ []) n l h = five_small a b c d e n h
+small_by (a ∷ b ∷ c ∷ d ∷ e ∷ f ∷ more) n l h = absurd (omega (arith, l))
+
+pub address_small : (text : List ℕ) (n : ℕ) → hex_number 5 text ≡ Some n → n < 2 ^ 20
+unfolding hex_number
+address_small text n h =
+    let there = cond_some (eqb (length text) 5) (hex_behind 0 text) n h in
+    let five : length text ≡ 5 = let e = there.0 in grind (arith, nat_tests) in
+    small_by text n five there.1
+
+-- ---- shapes
+
+-- the addresses of a written line
+abbrev pub Placed : WrittenLine → Type 0
+Placed (written.Profile p) = Unit {0}
+Placed (written.Code lo hi) = hi < 2 ^ 20
+Placed (written.Region space lo hi r) = hi < 2 ^ 20
+Placed (written.Marker at) = Unit {0}
+Placed (written.Start at a x y b) = at < 2 ^ 20
+Placed (written.Threshold n) = Unit {0}
+Placed (written.Cost kind n) = Unit {0}
+
+-- what is there is placed
+abbrev AllPlaced : Option WrittenLine → Type 0
+AllPlaced shape = (w : WrittenLine) → shape ≡ Some w → Placed w
+
+profile_placed : (tokens : List (List ℕ)) → AllPlaced (profile_shape tokens)
+unfolding profile_shape
+profile_placed tokens w e =
+    let t = bound (one tokens) _ w e in
+    let n = bound (number t.0) _ w t.2 in
+    subst Placed (same_Some _ w n.2) tt
+
+code_placed : (tokens : List (List ℕ)) → AllPlaced (code_shape tokens)
+unfolding code_shape
+code_placed tokens w e =
+    let t = bound (two tokens) _ w e in
+    let lo = bound (hex_number 5 t.0.0) _ w t.2 in
+    let hi = bound (hex_number 5 t.0.1) _ w lo.2 in
+    subst Placed (same_Some _ w hi.2) (address_small t.0.1 hi.0 hi.1)
+
+span_placed : (space : Space) (tokens : List (List ℕ)) → AllPlaced (span_shape space tokens)
+unfolding span_shape
+span_placed space tokens w e =
+    let t = bound (three tokens) _ w e in
+    let lo = bound (hex_number 5 t.0.0) _ w t.2 in
+    let hi = bound (hex_number 5 t.0.1) _ w lo.2 in
+    let range = bound (range_text t.0.2) _ w hi.2 in
+    subst Placed (same_Some _ w range.2) (address_small t.0.1 hi.0 hi.1)
+
+marker_placed : (tokens : List (List ℕ)) → AllPlaced (marker_shape tokens)
+unfolding marker_shape
+marker_placed tokens w e =
+    let t = bound (one tokens) _ w e in
+    let at = bound (hex_number 5 t.0) _ w t.2 in
+    subst Placed (same_Some _ w at.2) tt
+
+start_placed : (tokens : List (List ℕ)) → AllPlaced (start_shape tokens)
+unfolding start_shape
+start_placed tokens w e =
+    let t = bound (five tokens) _ w e in
+    let at = bound (hex_number 5 t.0.0) _ w t.2 in
+    let a = bound (range_text t.0.1) _ w at.2 in
+    let x = bound (range_text t.0.2) _ w a.2 in
+    let y = bound (range_text t.0.3) _ w x.2 in
+    let b = bound (flag_of t.0.4) _ w y.2 in
+    subst Placed (same_Some _ w b.2) (address_small t.0.0 at.0 at.1)
+
+threshold_placed : (tokens : List (List ℕ)) → AllPlaced (threshold_shape tokens)
+unfolding threshold_shape
+threshold_placed tokens w e =
+    let t = bound (one tokens) _ w e in
+    let n = bound (number t.0) _ w t.2 in
+    subst Placed (same_Some _ w n.2) tt
+
+cost_placed : (tokens : List (List ℕ)) → AllPlaced (cost_shape tokens)
+unfolding cost_shape
+cost_placed tokens w e =
+    let t = bound (two tokens) _ w e in
+    let kind = bound (cost_name t.0.0) _ w t.2 in
+    let n = bound (number t.0.1) _ w kind.2 in
+    subst Placed (same_Some _ w n.2) tt
+
+either_placed : (test : Bool) (here other : Option WrittenLine) → AllPlaced here → AllPlaced other → AllPlaced (cond test here other)
+either_placed true here other h k = h
+either_placed false here other h k = k
+
+none_placed : AllPlaced None
+none_placed w e = absurd (none-some w e)
+
+by_placed : (kind : List ℕ) (tokens : List (List ℕ)) → AllPlaced (shape_by kind tokens)
+by_placed kind tokens =
+    either_placed (same_text kind (codes "profile")) _ _ (profile_placed tokens)
+    (either_placed (same_text kind (codes "code")) _ _ (code_placed tokens)
+    (either_placed (same_text kind (codes "data")) _ _ (span_placed Data tokens)
+    (either_placed (same_text kind (codes "input")) _ _ (span_placed Input tokens)
+    (either_placed (same_text kind (codes "output")) _ _ (span_placed Output tokens)
+    (either_placed (same_text kind (codes "marker")) _ _ (marker_placed tokens)
+    (either_placed (same_text kind (codes "start")) _ _ (start_placed tokens)
+    (either_placed (same_text kind (codes "threshold")) _ _ (threshold_placed tokens)
+    (either_placed (same_text kind (codes "cost")) _ _ (cost_placed tokens) none_placed))))))))
+
+pub shape_placed : (tokens : List (List ℕ)) → AllPlaced (shape_of tokens)
+shape_placed [] = none_placed
+shape_placed (kind ∷ tokens) = by_placed kind tokens
+
+-- ---- numbers
+
+one_normal : (n : ℤ) (r : NumberRange) → one_of n ≡ Some r → IsNormal r
+one_normal n r h =
+    let t = guard_some (is_signed n) (single n) r h in
+    subst IsNormal t.1 (single_normal n (is_signed_true n t.0))
+
+several_normal : (lo hi m : ℤ) (r : NumberRange) → steps_of lo hi m ≡ Some r → IsNormal r
+unfolding steps_of
+several_normal lo hi m r h =
+    let t = guard_some (is_rising lo hi && is_step m && leads lo hi m) (several lo hi m) r h in
+    let b = both_sides (is_rising lo hi && is_step m) (leads lo hi m) t.0 in
+    let c = both_sides (is_rising lo hi) (is_step m) b.0 in
+    subst IsNormal t.1 (steps_normal lo hi m c.0 c.1 b.1)
+
+ends_normal : (lo hi : ℤ) (r : NumberRange) (same : Bool) → cond same (one_of lo) (steps_of lo hi (pos 1)) ≡ Some r → IsNormal r
+ends_normal lo hi r true h = one_normal lo r h
+ends_normal lo hi r false h = several_normal lo hi (pos 1) r h
+
+pub range_normal : (text : RangeText) (r : NumberRange) → range_of text ≡ Some r → IsNormal r
+range_normal Any r h = subst IsNormal (same_Some any_word r h) any_normal
+range_normal (One n) r h = one_normal n r h
+range_normal (Ends lo hi) r h = ends_normal lo hi r (int_eq lo hi) h
+range_normal (Steps lo hi m) r h = several_normal lo hi m r h
+
+-- ---- lines
+
+-- a line that fits: its addresses are some, its ranges normal, and its numbers in bounds
+abbrev pub LineFits : PlanLine → Type 0
+LineFits (lines.Profile p) = Unit {0}
+LineFits (lines.Code lo hi) = hi < 2 ^ 20
+LineFits (lines.Region space lo hi r) = (hi < 2 ^ 20) × IsNormal r
+LineFits (lines.Marker at) = Unit {0}
+LineFits (lines.Start s) = (s.at < 2 ^ 20) × HasNormalRanges s
+LineFits (lines.Threshold n) = IsSigned n
+LineFits (lines.Cost kind n) = (1 ≤ n) × (n ≤ 1000)
+
+start_fits : (at : ℕ) (b : Option Bool) (a x y : RangeText) (l : PlanLine) → at < 2 ^ 20 → start_of at b (range_of a) (range_of x) (range_of y) ≡ Some l → LineFits l
+start_fits at b a x y l low h =
+    let a' = bound (range_of a) _ l h in
+    let x' = bound (range_of x) _ l a'.2 in
+    let y' = bound (range_of y) _ l x'.2 in
+    subst LineFits (same_Some _ l y'.2) (low, record { a = range_normal a a'.0 a'.1; x = range_normal x x'.0 x'.1; y = range_normal y y'.0 y'.1 })
+
+cost_bounds : (n : ℤ) → is_cost n ≡ true → (1 ≤ unsigned_abs n) × (unsigned_abs n ≤ 1000)
+cost_bounds n h =
+    let b = both_sides (int_le (pos 1) n) (int_le n (pos 1000)) h in
+    let low = le_true (pos 1) n b.0 in
+    let high = le_true n (pos 1000) b.1 in
+    (omega (arith, ints, low, high), omega (arith, ints, low, high))
+
+pub value_fits : (w : WrittenLine) (l : PlanLine) → Placed w → value_of w ≡ Some l → LineFits l
+value_fits (written.Profile p) l h e = let q = bound p _ l e in subst LineFits (same_Some _ l q.2) tt
+value_fits (written.Code lo hi) l h e = subst LineFits (same_Some _ l e) h
+value_fits (written.Region space lo hi r) l h e = let q = bound (range_of r) _ l e in subst LineFits (same_Some _ l q.2) (h, range_normal r q.0 q.1)
+value_fits (written.Marker at) l h e = subst LineFits (same_Some _ l e) tt
+value_fits (written.Start at a x y b) l h e = start_fits at b a x y l h e
+value_fits (written.Threshold n) l h e = let t = guard_some (is_signed n) (lines.Threshold n) l e in subst LineFits t.1 (is_signed_true n t.0)
+value_fits (written.Cost kind n) l h e = let t = guard_some (is_cost n) (lines.Cost kind (unsigned_abs n)) l e in subst LineFits t.1 (cost_bounds n t.0)

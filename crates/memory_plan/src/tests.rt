@@ -1,0 +1,170 @@
+use crate::{
+    ImageFault, ImageRule, PlanFault, PlanRule, Range, read_image, read_plan, write_image,
+};
+use std::alloc::Global;
+use std::test::Fail;
+use viper_word::{Addr, Profile, Word};
+
+/// Texts that are shorter than this are read.
+const SHORT: usize = 100_000;
+
+/// The fault of a text as an image. None where it is one, or longer than those of these tests.
+fn image_fault(alloc: Global, text: &[u8]) -> Option<ImageFault> {
+    if text.len() > SHORT {
+        return None;
+    }
+    read_image(alloc, text).err()
+}
+
+/// The fault of a text as a plan over an image. None where it is one, or longer.
+fn plan_fault(alloc: Global, image: &[u8], text: &[u8]) -> Option<PlanFault> {
+    if image.len() > SHORT || text.len() > SHORT {
+        return None;
+    }
+    let image = read_image(alloc, image).ok()?;
+    read_plan(alloc, text, &image).err()
+}
+
+macro_rules! image_rows {
+    ($($text:literal => $line:literal $rule:ident,)*) => {
+        [$(($text.as_slice(), $line, ImageRule::$rule),)*]
+    };
+}
+
+macro_rules! plan_rows {
+    ($($text:literal => $line:literal $rule:ident,)*) => {
+        [$(($text.as_slice(), $line, PlanRule::$rule),)*]
+    };
+}
+
+#[test]
+fn the_first_bad_line_of_an_image_is_named(rt: HostRuntime) {
+    let rows = image_rows! {
+        b"\n" => 1 Form,
+        b"00000 06300000\n\n" => 2 Form,
+        b"00000 06300000\r\n" => 1 Form,
+        b"00000  06300000" => 1 Form,
+        b" 00000 06300000" => 1 Form,
+        b"00000 0630000G" => 1 Form,
+        b"00000 0630000\xC3" => 1 Form,
+        b"000000 06300000" => 1 Form,
+        b"# a comment\n" => 1 Form,
+        b"00001 06300000\n00001 06300000\n" => 2 Order,
+        b"00001 06300000\n00000 06300000\nx\n" => 2 Order,
+        b"00001 06300000\n00000 0630000\n" => 2 Form,
+    };
+    for (text, line, rule) in &rows {
+        let fault = ImageFault::At {
+            line: *line,
+            rule: *rule,
+        };
+        assert_eq!(rt; image_fault(rt.alloc(), text), Some(fault));
+    }
+}
+
+/// Words at 00000 to 00002, and 11 at 00100.
+const IMAGE: &[u8] = b"00000 00500001\n00001 00300000\n00002 06300000\n00100 0000000B\n";
+
+#[test]
+fn the_first_broken_rule_of_a_plan_is_named(rt: HostRuntime) {
+    let rows = plan_rows! {
+        b"code 00000  00002" => 1 Form,
+        b"code 00000 00002\r\n" => 1 Form,
+        b"code 00000 000002" => 1 Form,
+        b" code 00000 00002" => 1 Form,
+        b"Code 00000 00002" => 1 Form,
+        b"marker" => 1 Form,
+        b"data 00200 00200 1...2" => 1 Form,
+        b"data 00200 00200 12345678901" => 1 Form,
+        b"data 00200 00200 0..9/12345678901" => 1 Form,
+        b"profile x" => 1 Form,
+        b"cost MUL 2" => 1 Form,
+        b"profile 01" => 1 Number,
+        b"profile 3" => 1 Number,
+        b"data 00200 00200 5..4" => 1 Number,
+        b"data 00200 00200 5..5/1" => 1 Number,
+        b"data 00200 00200 0..9/2" => 1 Number,
+        b"data 00200 00200 0..10/-5" => 1 Number,
+        b"data 00200 00200 2147483648" => 1 Number,
+        b"threshold -2147483649" => 1 Number,
+        b"cost NEG 0" => 1 Number,
+        b"cost NEG 1001" => 1 Number,
+        b"# a line\n\nthreshold 5\ncode 00000 00002\n" => 4 Order,
+        b"code 00000 00002\nprofile 2\n" => 2 Order,
+        b"profile 2\nprofile 2\n" => 2 Limit,
+        b"code 00000 04000" => 1 Limit,
+        b"cost NEG 5\ncost NEG 5\n" => 2 Limit,
+        b"code 00002 00000" => 1 Span,
+        b"code 00000 00002\ndata 00002 00005 any\n" => 2 Span,
+        b"input 00000 00001 any\ninput 00001 00002 any\n" => 2 Span,
+        b"code 00000 00003" => 1 Image,
+        b"data 00100 00100 0..10" => 1 Image,
+        b"code 00000 00002\nmarker 00003\n" => 2 Code,
+        b"code 00000 00002\nmarker 00000\nmarker 00000\n" => 3 Marker,
+        b"code 00000 00002\nmarker 00000\nstart 00001 any any any any" => 3 Marker,
+        b"code 00000 00002\nmarker 00000\n" => 3 Start,
+        b"code 00000 00002\nmarker 00000" => 3 Start,
+        b"" => 1 Start,
+    };
+    for (text, line, rule) in &rows {
+        let fault = PlanFault::At {
+            line: *line,
+            rule: *rule,
+        };
+        assert_eq!(rt; plan_fault(rt.alloc(), IMAGE, text), Some(fault));
+    }
+}
+
+const PLAN: &[u8] = b"profile 2\ncode 00000 00001\ncode 00002 00002\ndata 00100 00101 -1..11/4\n\
+input 00020 00020 7\noutput 00020 00021 any\nmarker 00000\nstart 00000 -0 any 0..255 1\n\
+threshold -5\ncost READ 3\ncost OUT 9\n";
+
+#[test]
+fn a_plan_answers_by_its_lines(rt: HostRuntime) -> Result<(), Fail> {
+    let alloc = rt.alloc();
+    let at = |n: u32| Addr::new(n).ok_or("an address");
+    let image = read_image(alloc, IMAGE).map_err(|_| "an image")?;
+    let plan = read_plan(alloc, PLAN, &image).map_err(|_| "a plan")?;
+    assert_eq!(rt; plan.profile(), Profile::Two);
+    assert_eq!(rt; plan.code_word(at(2)?), Some(Word(0x0630_0000)));
+    assert_eq!(rt; plan.code_word(at(0x100)?), None);
+    assert_eq!(rt; plan.image_word(at(0x100)?), Some(Word(11)));
+    let data = plan.data_range(at(0x101)?).ok_or("a range")?;
+    assert_eq!(rt;
+        (data.lo, data.hi, data.modulus, data.residue),
+        (-1, 11, 4, 3)
+    );
+    assert!(rt; data.has(3) && !data.has(4));
+    assert_eq!(rt; plan.data_range(at(0x102)?), None);
+    let input = plan.input_range(at(0x20)?).ok_or("a range")?;
+    assert_eq!(rt;
+        (input.lo, input.hi, input.modulus, input.residue),
+        (7, 7, 0, 7)
+    );
+    assert_eq!(rt; plan.output_range(at(0x21)?), Some(Range::any()));
+    assert_eq!(rt; plan.markers(), [at(0)?].as_slice());
+    assert_eq!(rt; plan.thresholds(), [-5].as_slice());
+    assert_eq!(rt;
+        plan.code_spans(),
+        [(at(0)?, at(1)?), (at(2)?, at(2)?)].as_slice()
+    );
+    assert_eq!(rt; plan.starts().len(), 1);
+    assert_eq!(rt; plan.cost(Word(0x0630_0000)), 3);
+    assert_eq!(rt; plan.cost(Word(0x1C30_0020)), 9);
+    assert_eq!(rt; plan.cost(Word(0x0130_0000)), 1);
+    Ok(())
+}
+
+#[test]
+fn an_image_is_written_in_upper_case(rt: HostRuntime) -> Result<(), Fail> {
+    let mut image = read_image(rt.alloc(), b"0000a 0630ffFf").map_err(|_| "an image")?;
+    let first = Addr::new(9).ok_or("an address")?;
+    assert_eq!(rt; image.put(first, Word(1)).ok(), Some(true));
+    assert_eq!(rt; image.put(first, Word(2)).ok(), Some(false));
+    let text = write_image(rt.alloc(), &image).map_err(|_| "memory")?;
+    assert_eq!(rt;
+        text.as_slice(),
+        b"00009 00000001\n0000A 0630FFFF\n".as_slice()
+    );
+    Ok(())
+}

@@ -1,0 +1,4 @@
+pub mod Scripts
+pub mod Opening
+pub mod Runs
+pub mod Log

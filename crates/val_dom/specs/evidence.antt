@@ -1,0 +1,4 @@
+-- What is proved of the definitions: no reader need believe it.
+pub mod NormalForms
+pub mod Seals
+pub mod ValLaws

@@ -1,0 +1,109 @@
+-- What Done and Refused mean of each command.
+use Rattle.std.specs.Prelude.{◌≡◌, ℕ, ◌≤◌, List, [], ◌∷◌, ◌++◌, length, Some, true}
+use Rattle.memory_plan.specs.Plans.{PlanLines}
+use Rattle.memory_plan.specs.Runs.{CanRun}
+use Rattle.memory_plan.specs.FirstForms.{IsFirstImage, IsFirstPlan}
+use Rattle.viper_io.specs.Causes.{Stock, Output, Handed, Wrote}
+use Rattle.viper_top.specs.declared.status.Status.{Status}
+use Rattle.viper_top.specs.declared.cert_checker.Refusal.{Refusal}
+use Rattle.viper_top.specs.Certificates.{Certificate, IsCertificate}
+use Rattle.viper_top.specs.Conditions.{Local}
+use Rattle.viper_top.specs.Verdicts.{bounds_of}
+use Rattle.viper_top.specs.Claims.{Holds, FailsFirst}
+use Rattle.viper_top.specs.Texts.{yes_text, no_text}
+use Rattle.viper_top.specs.Endings.{Ending}
+use Rattle.memory_plan.specs.Images.{IsImage}
+use Rattle.memory_plan.specs.PlanText.{IsPlan}
+use Rattle.peripheral_run.specs.Scripts.{Scripted, IsScript}
+use Rattle.viper_top.specs.Run.{ran}
+use Rattle.viper_top.specs.Contents.{Kind, Image, Plan, Cert, WholeImage, WholePlan, Script, Value, limit_of, Spells}
+
+-- the bytes of a name, as a content of that kind
+abbrev pub handed_as : Kind → List ℕ → List ℕ → Handed
+handed_as kind name bytes = record { name = name; limit = limit_of kind; bytes = Some bytes }
+
+-- ---- check
+
+-- These bytes were handed out in this call, in this order, and nothing else; where the store tells, they are
+-- what the names hold; and they spell an image, a plan over it and a certificate.
+pub record AreRead (image plan cert : List ℕ) (before now : Stock) (lines : PlanLines) (certificate : Certificate) : Type 0 where
+  pub words : List (ℕ × ℕ)
+  pub image_bytes : List ℕ
+  pub plan_bytes : List ℕ
+  pub cert_bytes : List ℕ
+  pub handed : now.handed ≡ before.handed
+      ++ handed_as Image image image_bytes ∷ handed_as (Plan words) plan plan_bytes ∷ handed_as Cert cert cert_bytes ∷ []
+  pub image_told : before.tells ≡ true → before.holds image ≡ Some image_bytes
+  pub plan_told : before.tells ≡ true → before.holds plan ≡ Some plan_bytes
+  pub cert_told : before.tells ≡ true → before.holds cert ≡ Some cert_bytes
+  pub image_is : IsFirstImage image_bytes words
+  pub plan_is : IsFirstPlan words plan_bytes lines
+  pub cert_is : IsCertificate cert_bytes certificate
+
+-- Done: all local conditions hold of what was read; every fair run is safe, and each marker is bounded
+-- by the number in its line, or unreached as its line says; there are such runs, and each goes on; and
+-- the text of that yes was put.
+pub record Verified (image plan cert : List ℕ) (before now : Stock) (out_before out_now : Output) : Type 0 where
+  pub lines : PlanLines
+  pub certificate : Certificate
+  pub read : AreRead image plan cert before now lines certificate
+  pub local : Local lines certificate
+  pub runs : Holds lines (bounds_of lines certificate)
+  pub can_run : CanRun lines
+  pub put : Wrote out_before.text (yes_text (bounds_of lines certificate)) out_now.text
+
+-- Refused: not all local conditions hold of what was read; this fails first, and its text was put.
+pub record Declined (image plan cert : List ℕ) (before now : Stock) (out_before out_now : Output) : Type 0 where
+  pub lines : PlanLines
+  pub certificate : Certificate
+  pub read : AreRead image plan cert before now lines certificate
+  pub refusal : Refusal
+  pub first : FailsFirst lines certificate refusal
+  pub fails : Local lines certificate → ⊥
+  pub put : Wrote out_before.text (no_text refusal) out_now.text
+
+-- a name holds bytes of this kind that spell the value, within the limit
+pub record IsGiven (stock : Stock) (kind : Kind) (name : List ℕ) (value : Value kind) : Type 0 where
+  pub bytes : List ℕ
+  pub held : stock.holds name ≡ Some bytes
+  pub short : length bytes ≤ limit_of kind
+  pub is : Spells kind bytes value
+
+-- The store tells, and the three names hold an image, this plan over it and this certificate, each within its limit.
+pub record AreGiven (image plan cert : List ℕ) (stock : Stock) (lines : PlanLines) (certificate : Certificate) : Type 0 where
+  pub told : stock.tells ≡ true
+  pub words : List (ℕ × ℕ)
+  pub image_given : IsGiven stock Image image words
+  pub plan_given : IsGiven stock (Plan words) plan lines
+  pub cert_given : IsGiven stock Cert cert certificate
+
+-- the status is that of the ending, whose text was put
+pub record EndsAs (ending : Ending) (ends : Status) (out_before out_now : Output) : Type 0 where
+  pub status : ends ≡ ending.status
+  pub put : Wrote out_before.text ending.text out_now.text
+
+-- ---- run
+
+-- These bytes were handed out in this call, in this order, and nothing else; where the store tells, they are
+-- what the names hold; and they spell an image, a plan over it and a script over that.
+pub record AreFollowed (image plan script : List ℕ) (before now : Stock) (lines : PlanLines) (scripted : Scripted) : Type 0 where
+  pub words : List (ℕ × ℕ)
+  pub image_bytes : List ℕ
+  pub plan_bytes : List ℕ
+  pub script_bytes : List ℕ
+  pub handed : now.handed ≡ before.handed
+      ++ handed_as WholeImage image image_bytes ∷ handed_as (WholePlan words) plan plan_bytes ∷ handed_as (Script lines) script script_bytes ∷ []
+  pub image_told : before.tells ≡ true → before.holds image ≡ Some image_bytes
+  pub plan_told : before.tells ≡ true → before.holds plan ≡ Some plan_bytes
+  pub script_told : before.tells ≡ true → before.holds script ≡ Some script_bytes
+  pub image_is : IsImage image_bytes words
+  pub plan_is : IsPlan words plan_bytes lines
+  pub script_is : IsScript lines script_bytes scripted
+
+-- The ending and the outputs that were put are those of the machine's run over the script that was read.
+pub record Followed (image plan script : List ℕ) (steps : ℕ) (before now : Stock) (ends : Status) (out_before out_now : Output) : Type 0 where
+  pub lines : PlanLines
+  pub scripted : Scripted
+  pub read : AreFollowed image plan script before now lines scripted
+  pub status : ends ≡ (ran lines scripted steps).status
+  pub put : Wrote out_before.text (ran lines scripted steps).text out_now.text

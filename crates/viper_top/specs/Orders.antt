@@ -1,0 +1,53 @@
+-- The words of the command line.
+use Rattle.std.specs.Prelude.{ℕ, List, [], ◌∷◌, Option, Some, None, Bool, false, not, ◌&&◌, ◌==◌, nat_le, if◌then◌else◌, codes, length, map}
+use Rattle.viper_word.specs.Options.{bind}
+use Rattle.memory_plan.specs.Numbers.{natural}
+use Rattle.viper_top.specs.declared.command_line.TheConstants.{STEPS_DIGITS, MOST_STEPS}
+use Rattle.std.specs.Borrow.{Bor}
+use Rattle.std.specs.Str.{bytes_eq}
+
+-- a command with the names that it is given
+pub data Order : Type 0 where
+  Check : (image plan cert : List ℕ) → Order
+  Run : (image plan script : List ℕ) → (steps : ℕ) → Order
+
+-- the name that a command places
+abbrev pub target_of : Order → Option (List ℕ)
+target_of (Check image plan cert) = None
+target_of (Run image plan script steps) = None
+
+-- not empty, and no option
+abbrev pub is_plain : List ℕ → Bool
+is_plain [] = false
+is_plain (c ∷ cs) = not (c == 45)
+
+-- the rows with three names, by their first word
+abbrev pub three_names : List ℕ → List ℕ → List ℕ → List ℕ → Option Order
+three_names word a b c = if bytes_eq word (codes "check") then Some (Check a b c) else None
+
+-- a number of steps: one to seven digits, from 1 on
+abbrev pub steps_of : List ℕ → Option ℕ
+steps_of text =
+    if nat_le (length text) STEPS_DIGITS
+    then bind (natural text) (λ n. if nat_le 1 n && nat_le n MOST_STEPS then Some n else None)
+    else None
+
+-- the rows with three names and a number of steps
+abbrev pub names_and_steps : List ℕ → List ℕ → List ℕ → List ℕ → List ℕ → Option Order
+names_and_steps word a b c d =
+    if bytes_eq word (codes "run") then bind (steps_of d) (λ n. Some (Run a b c n)) else None
+
+-- the rows; where the words are none of them, they are no command
+abbrev pub order_of : List (List ℕ) → Option Order
+order_of (word ∷ a ∷ b ∷ c ∷ []) = if is_plain a && is_plain b && is_plain c then three_names word a b c else None
+order_of (word ∷ a ∷ b ∷ c ∷ d ∷ []) = if is_plain a && is_plain b && is_plain c then names_and_steps word a b c d else None
+order_of _ = None
+
+-- the command on the command line, as the program is handed its words
+abbrev pub order_in : List (Bor (List ℕ)) → Option Order
+order_in words = order_of (map (λ w. w.now) words)
+
+-- the name that is placed, where the words are a command that places one
+abbrev pub target_in : Option Order → Option (List ℕ)
+target_in None = None
+target_in (Some order) = target_of order

@@ -1,0 +1,163 @@
+-- What is still to be read at each stage of the program. No public clause speaks of it.
+use Rattle.std.specs.Prelude.{◌≡◌, ℕ, ◌<◌, ◌≤◌, length, List, [], ◌∷◌, Option, Some, None, Result, Ok, Err, ◌⊎◌}
+use Rattle.memory_plan.specs.Plans.{PlanLines}
+use Rattle.viper_io.specs.Causes.{Stock, Handed}
+use Rattle.viper_io.specs.declared.fault.Call.TheVariants.{Fetch}
+use Rattle.viper_top.specs.declared.answer.Answer.{Answer}
+use Rattle.viper_top.specs.declared.answer.Answer.TheVariants as answer
+use Rattle.viper_top.specs.declared.answer.Stop.{Stop}
+use Rattle.viper_top.specs.declared.answer.Stop.TheVariants.{Outside, Memory}
+use Rattle.viper_top.specs.declared.command_line.Command.{Command}
+use Rattle.viper_top.specs.declared.command_line.Command.TheVariants as command
+use Rattle.viper_top.specs.declared.stage.OverPlan.{OverPlan}
+use Rattle.viper_top.specs.declared.stage.OverPlan.TheVariants as then
+use Rattle.viper_top.specs.declared.stage.Stage.{Stage}
+use Rattle.viper_top.specs.declared.stage.Stage.TheVariants as stage
+use Rattle.viper_top.specs.declared.stage.Next.{Next}
+use Rattle.viper_top.specs.declared.stage.Next.TheVariants.{Due, Ready, Over}
+use Rattle.viper_top.specs.declared.task.Task.{Task as Job}
+use Rattle.viper_top.specs.declared.task.Task.TheVariants as job
+use Rattle.viper_top.specs.Certificates.{cert_view}
+use Rattle.viper_top.specs.Endings.{Ending, done, made, refused, input}
+use Rattle.viper_top.specs.Orders.{Order, Check, Run}
+use Rattle.viper_top.specs.Contents.{Kind, Plan, WholePlan, Value, Fault, title_of, limit_of, long_text, Spells, Breaks, fault_text}
+use Rattle.viper_top.specs.Works.{Work, Does, Reads, Walks, Awaits}
+use Rattle.viper_top.specs.Commands.{Task, Checks, Runs, Ends, over_plan, with_cert, run_work, with_script}
+use Rattle.viper_top.specs.Promises.{Given, Failed, Grew}
+
+-- as the program holds them
+abbrev pub order_view : Command → Order
+order_view (command.Check i p c) = Check i.now p.now c.now
+order_view (command.Run i p s n) = Run i.now p.now s.now n
+
+abbrev pub ending_of : Answer → Ending
+ending_of (answer.Done text) = done text.items
+ending_of (answer.Made bytes text) = made bytes.items text.items
+ending_of (answer.Refused text) = refused text.items
+ending_of (answer.Input text) = input text.items
+
+-- what comes after a plan
+abbrev pub left_over : OverPlan → PlanLines → Work Task
+left_over (then.Check cert) plan = with_cert Checks cert.now plan
+
+-- what is still to be read
+abbrev pub left : Stage → Work Task
+left (stage.Image image plan then) = over_plan image.now plan.now (left_over then)
+left (stage.Plan image plan then) = Reads (Plan image) plan.now (left_over then)
+left (stage.Cert plan cert) = with_cert Checks cert.now plan
+left (stage.WholeImage image plan script steps) = run_work image.now plan.now script.now steps
+left (stage.WholePlan image plan script steps) = Reads (WholePlan image) plan.now (with_script script.now steps)
+left (stage.Script plan script steps) = with_script script.now steps plan
+
+-- how many contents that are at the most
+abbrev pub count_left : Stage → ℕ
+count_left (stage.Image image plan then) = 3
+count_left (stage.Plan image plan then) = 2
+count_left (stage.Cert plan cert) = 1
+count_left (stage.WholeImage image plan script steps) = 3
+count_left (stage.WholePlan image plan script steps) = 2
+count_left (stage.Script plan script steps) = 1
+
+-- what is to be done, as the program holds it
+abbrev pub task_of : Job → Task
+task_of (job.Check plan cert) = Checks plan (cert_view cert)
+task_of (job.Run plan script steps) = Runs plan script steps
+
+-- the program goes on as the work does
+abbrev pub Follows : Work Task → Next → Type 0
+Follows work (Due s) = work ≡ left s
+Follows work (Ready j) = work ≡ Does (task_of j)
+Follows work (Over a) = ⊥
+
+-- it ends with this text, since a content can't be read
+abbrev pub IsInput : List ℕ → Next → Type 0
+IsInput text (Due s) = ⊥
+IsInput text (Ready j) = ⊥
+IsInput text (Over a) = ending_of a ≡ input text
+
+-- the stage asks for a content
+abbrev pub Asks : Work Task → List ℕ → ℕ → List ℕ → Type 0
+Asks (Does task) name limit title = ⊥
+Asks (Reads kind n next) name limit title = (name ≡ n) × (limit ≡ limit_of kind) × (title ≡ title_of kind)
+
+-- the bytes are within the limit of the content that is due
+abbrev pub FitsIn : Work Task → List ℕ → Type 0
+FitsIn (Does task) bytes = ⊥
+FitsIn (Reads kind name next) bytes = length bytes ≤ limit_of kind
+
+-- bytes of a kind were taken in
+pub record TookBroken (kind : Kind) (bytes : List ℕ) (n : Next) : Type 0 where
+  pub fault : Fault kind
+  pub breaks : Breaks kind bytes fault
+  pub is : IsInput (fault_text kind fault) n
+
+pub record TookValue (kind : Kind) (next : Value kind → Work Task) (bytes : List ℕ) (n : Next) : Type 0 where
+  pub value : Value kind
+  pub spells : Spells kind bytes value
+  pub follows : Follows (next value) n
+
+abbrev pub Took : (kind : Kind) → (Value kind → Work Task) → List ℕ → Next → Type 0
+Took kind next bytes n = TookBroken kind bytes n ⊎ TookValue kind next bytes n
+
+abbrev pub TookIn : Work Task → List ℕ → Next → Type 0
+TookIn (Does task) bytes n = ⊥
+TookIn (Reads kind name next) bytes n = Took kind next bytes n
+
+-- fewer are left
+abbrev pub IsFewer : ℕ → Next → Type 0
+IsFewer count (Due s) = count_left s < count
+IsFewer count (Ready j) = Unit {0}
+IsFewer count (Over a) = Unit {0}
+
+-- ---- with the store
+
+-- of a store only its lists and its count may have changed, which grew
+pub record Stays (before now : Stock) : Type 0 where
+  pub holds : (name : List ℕ) → now.holds name ≡ before.holds name
+  pub grew : Grew before now
+
+-- what was handed out leads to this ending
+pub record Came (work : Work Task) (before now : Stock) (ending : Ending) : Type 0 where
+  pub given : List Handed
+  pub is_given : Given before now given
+  pub walks : Walks Ends work given ending
+  pub clean : now.failures ≡ before.failures
+
+-- a fetch of the awaited name failed
+pub record Stopped (work : Work Task) (before now : Stock) : Type 0 where
+  pub given : List Handed
+  pub is_given : Given before now given
+  pub name : List ℕ
+  pub awaited : Awaits work given name
+  pub failed : Failed Fetch name before now
+
+-- there was no memory
+pub record Starved (before now : Stock) : Type 0 where
+  pub clean : now.failures ≡ before.failures
+
+abbrev pub CameTo : Work Task → Stock → Stock → Result Answer Stop → Type 0
+CameTo work before now (Ok a) = Came work before now (ending_of a)
+CameTo work before now (Err Outside) = Stopped work before now
+CameTo work before now (Err Memory) = Starved before now
+
+-- one content was handed out, or was too long, and the program goes on so
+abbrev pub TookContent : (kind : Kind) → (Value kind → Work Task) → Option (List ℕ) → Next → Type 0
+TookContent kind next None n = IsInput (long_text kind) n
+TookContent kind next (Some bytes) n = Took kind next bytes n
+
+pub record SteppedOn (kind : Kind) (name : List ℕ) (next : Value kind → Work Task) (before now : Stock) (n : Next) : Type 0 where
+  pub bytes : Option (List ℕ)
+  pub is_given : Given before now (record { name = name; limit = limit_of kind; bytes = bytes } ∷ [])
+  pub took : TookContent kind next bytes n
+  pub clean : now.failures ≡ before.failures
+
+-- the fetch of a name failed
+pub record FailedOn (name : List ℕ) (before now : Stock) : Type 0 where
+  pub none : Given before now []
+  pub failed : Failed Fetch name before now
+
+abbrev pub SteppedTo : Work Task → Stock → Stock → Result Next Stop → Type 0
+SteppedTo (Does task) before now r = ⊥
+SteppedTo (Reads kind name next) before now (Ok n) = SteppedOn kind name next before now n
+SteppedTo (Reads kind name next) before now (Err Outside) = FailedOn name before now
+SteppedTo (Reads kind name next) before now (Err Memory) = Starved before now

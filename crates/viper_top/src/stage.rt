@@ -1,0 +1,328 @@
+ghost use Rattle.std.specs.Prelude.{◌≡◌, ◌<◌, ◌≤◌, length, IfOk};
+ghost use Rattle.viper_top.specs.declared.stage.Stage.TheVariants as stages;
+ghost use Rattle.viper_top.specs.declared.stage.TheConstants.{IMAGE_LIMIT, PLAN_LIMIT, SCRIPT_LIMIT};
+ghost use Rattle.viper_top.specs.Contents.{Image as image_kind, Plan as plan_kind, Cert as cert_kind};
+ghost use Rattle.viper_top.specs.Contents.{WholeImage as whole_image_kind, WholePlan as whole_plan_kind, Script as script_kind};
+ghost use Rattle.viper_top.specs.Works.{Does, Reads};
+ghost use Rattle.viper_top.specs.Commands.{work_of, Checks, Runs, with_script};
+ghost use Rattle.viper_top.specs.Stages.{order_view, left, left_over, count_left, Follows, Asks, FitsIn, Took, TookIn, IsFewer};
+
+use crate::answer::Answer;
+use crate::cert_format::read_cert;
+use crate::command_line::Command;
+use crate::rules::{image_rule, plan_rule, script_rule};
+use crate::task::Task;
+use memory_plan::{
+    FirstFault, Image, ImageFault, Plan, PlanFault, first_image, first_plan, read_image, read_plan,
+};
+use peripheral_run::{ScriptFault, read_script};
+use std::alloc::{AllocError, Global};
+
+/// How many bytes an image has at the most.
+const IMAGE_LIMIT: u64 = 15_728_640;
+
+/// How many bytes a plan has at the most.
+const PLAN_LIMIT: u64 = 1_000_000;
+
+/// How many bytes a certificate has at the most.
+const CERT_LIMIT: u64 = 64_000_000;
+
+/// How many bytes a script has at the most.
+const SCRIPT_LIMIT: u64 = 16_000_000;
+
+/// What comes after a plan.
+#[derive(Clone, Copy)]
+pub enum OverPlan<'a> {
+    /// A certificate, which is judged.
+    Check { cert: &'a str },
+}
+
+/// Which content is due, with what was read before.
+#[derive(Drop)]
+pub enum Stage<'a> {
+    /// An image, and then a plan over it.
+    Image {
+        image: &'a str,
+        plan: &'a str,
+        then: OverPlan<'a>,
+    },
+    /// A plan over its image.
+    Plan {
+        image: Image,
+        plan: &'a str,
+        then: OverPlan<'a>,
+    },
+    /// A certificate, which is judged over its plan.
+    Cert {
+        plan: Plan,
+        cert: &'a str,
+    },
+    /// A whole image, then a whole plan over it, and a script.
+    WholeImage {
+        image: &'a str,
+        plan: &'a str,
+        script: &'a str,
+        steps: u64,
+    },
+    /// A whole plan over its image, and then a script.
+    WholePlan {
+        image: Image,
+        plan: &'a str,
+        script: &'a str,
+        steps: u64,
+    },
+    /// A script over its plan.
+    Script {
+        plan: Plan,
+        script: &'a str,
+        steps: u64,
+    },
+}
+
+/// How a command goes on.
+#[derive(Drop)]
+pub enum Next<'a> {
+    /// One more content is due.
+    Due(Stage<'a>),
+    /// All is read, and this is to be done.
+    Ready(Task),
+    /// A content can't be read, and it is over.
+    Over(Answer),
+}
+
+/// A content that is asked for: its name, its limit in bytes, and what texts call it.
+#[derive(Clone, Copy)]
+pub struct Asked<'a> {
+    pub name: &'a str,
+    pub limit: u64,
+    pub title: &'static str,
+}
+
+/// How a command begins.
+pub fn begin<'a>(command: &Command<'a>) -> Next<'a>
+    ensures { Follows (work_of (order_view command.now)) result }
+{
+    match *command {
+        Command::Check { image, plan, cert } => Next::Due(Stage::Image {
+            image,
+            plan,
+            then: OverPlan::Check { cert },
+        }),
+        Command::Run {
+            image,
+            plan,
+            script,
+            steps,
+        } => Next::Due(Stage::WholeImage {
+            image,
+            plan,
+            script,
+            steps,
+        }),
+    }
+}
+
+/// An image was handed out.
+fn take_image<'a>(
+    alloc: Global,
+    bytes: &[u8],
+    plan: &'a str,
+    then: OverPlan<'a>,
+) -> Result<Next<'a>, AllocError>
+    ensures took { IfOk result (Took image_kind
+        (λ words. Reads (plan_kind words) plan.now (left_over then.entry)) bytes.now) }
+    ensures fewer { IfOk result (IsFewer 3) }
+{
+    match first_image(alloc, bytes) {
+        Ok(image) => Ok(Next::Due(Stage::Plan { image, plan, then })),
+        Err(FirstFault::Unbuilt) => Ok(Next::Over(Answer::unbuilt(alloc, "image")?)),
+        Err(FirstFault::Memory) => Err(AllocError),
+    }
+}
+
+/// A plan was handed out.
+fn take_plan<'a>(
+    alloc: Global,
+    bytes: &[u8],
+    image: &Image,
+    then: OverPlan<'a>,
+) -> Result<Next<'a>, AllocError>
+    ensures took { IfOk result (Took (plan_kind image.now) (left_over then.entry) bytes.now) }
+    ensures fewer { IfOk result (IsFewer 2) }
+{
+    match first_plan(alloc, bytes, image) {
+        Ok(plan) => Ok(after_plan(plan, then)),
+        Err(FirstFault::Unbuilt) => Ok(Next::Over(Answer::unbuilt(alloc, "plan")?)),
+        Err(FirstFault::Memory) => Err(AllocError),
+    }
+}
+
+/// What comes after a plan that was read.
+fn after_plan<'a>(plan: Plan, then: OverPlan<'a>) -> Next<'a>
+    ensures follows { Follows (left_over then.entry plan) result }
+    ensures fewer { IsFewer 2 result }
+{
+    match then {
+        OverPlan::Check { cert } => Next::Due(Stage::Cert { plan, cert }),
+    }
+}
+
+/// A certificate was handed out.
+fn take_cert<'a>(alloc: Global, bytes: &[u8], plan: Plan) -> Result<Next<'a>, AllocError>
+    ensures took { IfOk result (Took cert_kind (λ c. Does (Checks plan c)) bytes.now) }
+    ensures fewer { IfOk result (IsFewer 1) }
+{
+    match read_cert(alloc, bytes) {
+        Ok(cert) => Ok(Next::Ready(Task::Check { plan, cert })),
+        Err(FirstFault::Unbuilt) => Ok(Next::Over(Answer::unbuilt(alloc, "cert")?)),
+        Err(FirstFault::Memory) => Err(AllocError),
+    }
+}
+
+/// A whole image was handed out.
+fn take_whole_image<'a>(
+    alloc: Global,
+    bytes: &[u8],
+    plan: &'a str,
+    script: &'a str,
+    steps: u64,
+) -> Result<Next<'a>, AllocError>
+    requires { length bytes.now ≤ IMAGE_LIMIT }
+    ensures took { IfOk result (Took whole_image_kind (λ words.
+        Reads (whole_plan_kind words) plan.now (with_script script.now steps)) bytes.now) }
+    ensures fewer { IfOk result (IsFewer 3) }
+{
+    match read_image(alloc, bytes) {
+        Ok(image) => Ok(Next::Due(Stage::WholePlan {
+            image,
+            plan,
+            script,
+            steps,
+        })),
+        Err(ImageFault::At { line, rule }) => {
+            let answer = Answer::at_line(alloc, "image", line, image_rule(rule))?;
+            Ok(Next::Over(answer))
+        }
+        Err(ImageFault::Memory) => Err(AllocError),
+    }
+}
+
+/// A whole plan was handed out.
+fn take_whole_plan<'a>(
+    alloc: Global,
+    bytes: &[u8],
+    image: &Image,
+    script: &'a str,
+    steps: u64,
+) -> Result<Next<'a>, AllocError>
+    requires { length bytes.now ≤ PLAN_LIMIT }
+    ensures took { IfOk result (Took (whole_plan_kind image.now)
+        (with_script script.now steps) bytes.now) }
+    ensures fewer { IfOk result (IsFewer 2) }
+{
+    match read_plan(alloc, bytes, image) {
+        Ok(plan) => Ok(Next::Due(Stage::Script {
+            plan,
+            script,
+            steps,
+        })),
+        Err(PlanFault::At { line, rule }) => {
+            let answer = Answer::at_line(alloc, "plan", line, plan_rule(rule))?;
+            Ok(Next::Over(answer))
+        }
+        Err(PlanFault::Memory) => Err(AllocError),
+    }
+}
+
+/// A script was handed out.
+fn take_script<'a>(
+    alloc: Global,
+    bytes: &[u8],
+    plan: Plan,
+    steps: u64,
+) -> Result<Next<'a>, AllocError>
+    requires { length bytes.now ≤ SCRIPT_LIMIT }
+    ensures took { IfOk result (Took (script_kind plan)
+        (λ s. Does (Runs plan s steps)) bytes.now) }
+    ensures fewer { IfOk result (IsFewer 1) }
+{
+    match read_script(alloc, bytes, &plan) {
+        Ok(script) => Ok(Next::Ready(Task::Run {
+            plan,
+            script,
+            steps,
+        })),
+        Err(ScriptFault::At { line, rule }) => {
+            let answer = Answer::at_line(alloc, "script", line, script_rule(rule))?;
+            Ok(Next::Over(answer))
+        }
+        Err(ScriptFault::Memory) => Err(AllocError),
+    }
+}
+
+impl<'a> Stage<'a> {
+    /// The content that is due.
+    pub fn asked(&self) -> Asked<'_>
+        ensures { Asks (left self.now) result.name.now result.limit result.title.now }
+    {
+        match self {
+            Stage::Image { image, .. } => Asked {
+                name: image,
+                limit: IMAGE_LIMIT,
+                title: "image",
+            },
+            Stage::Plan { plan, .. } => Asked {
+                name: plan,
+                limit: PLAN_LIMIT,
+                title: "plan",
+            },
+            Stage::Cert { cert, .. } => Asked {
+                name: cert,
+                limit: CERT_LIMIT,
+                title: "cert",
+            },
+            Stage::WholeImage { image, .. } => Asked {
+                name: image,
+                limit: IMAGE_LIMIT,
+                title: "image",
+            },
+            Stage::WholePlan { plan, .. } => Asked {
+                name: plan,
+                limit: PLAN_LIMIT,
+                title: "plan",
+            },
+            Stage::Script { script, .. } => Asked {
+                name: script,
+                limit: SCRIPT_LIMIT,
+                title: "script",
+            },
+        }
+    }
+
+    /// Takes the bytes that were handed out: what they spell goes on, and what breaks their grammar
+    /// ends the command.
+    pub fn take(self, alloc: Global, bytes: &[u8]) -> Result<Next<'a>, AllocError>
+        requires { FitsIn (left self) bytes.now }
+        ensures took { IfOk result (TookIn (left self.entry) bytes.now) }
+        ensures fewer { IfOk result (IsFewer (count_left self.entry)) }
+    {
+        match self {
+            Stage::Image { plan, then, .. } => take_image(alloc, bytes, plan, then),
+            Stage::Plan { image, then, .. } => take_plan(alloc, bytes, &image, then),
+            Stage::Cert { plan, .. } => take_cert(alloc, bytes, plan),
+            Stage::WholeImage {
+                plan,
+                script,
+                steps,
+                ..
+            } => take_whole_image(alloc, bytes, plan, script, steps),
+            Stage::WholePlan {
+                image,
+                script,
+                steps,
+                ..
+            } => take_whole_plan(alloc, bytes, &image, script, steps),
+            Stage::Script { plan, steps, .. } => take_script(alloc, bytes, plan, steps),
+        }
+    }
+}
