@@ -3,6 +3,8 @@
 ghost use Rattle.std.specs.Prelude.{◌≡◌, ◌<◌, ◌++◌, codes, IfOk};
 ghost use Rattle.viper_word.specs.Fields.{fields_of};
 ghost use Rattle.viper_word.specs.Digits.{address_digits};
+ghost use Rattle.field_asm.specs.Sources.{IsSource};
+ghost use Rattle.memory_plan.specs.Images.{entries};
 ghost use Rattle.field_asm.specs.Tables.{destination_names, mode_names, register_names};
 ghost use Rattle.disasm_view.specs.Listings.{spaced, name_of, operation_name, fields_line, source_line, listing};
 
@@ -100,13 +102,22 @@ pub fn line_of(alloc: Global, at: Addr, word: Word) -> Result<Vec<u8>, Memory>
     Ok(text.into_bytes())
 }
 
-/// The listing of an image: a line of source for each word, in order of addresses, each with its LF.
-pub fn listing(alloc: Global, image: &Image) -> Result<Vec<u8>, Memory>
-    ensures { IfOk result (λ text. text.items ≡ listing image.now) }
+/// A line for each of these words, in their order.
+fn lines_of(alloc: Global, words: &[(Addr, Word)]) -> Result<Vec<u8>, Memory>
+    ensures { IfOk result (λ text. text.items ≡ listing (entries words.now)) }
 {
     let mut text = LineText::new(alloc);
-    for entry in image.words() {
+    for entry in words {
         write_line(&mut text, entry.0, entry.1)?;
     }
     Ok(text.into_bytes())
+}
+
+/// The listing of an image: a line of source for each word, in order of addresses, each with its LF.
+/// It is a source of the image, so assembling it gives the image again.
+pub fn listing(alloc: Global, image: &Image) -> Result<Vec<u8>, Memory>
+    ensures text { IfOk result (λ text. text.items ≡ listing image.now) }
+    ensures source { IfOk result (λ text. IsSource text.items image.now) }
+{
+    lines_of(alloc, image.words())
 }

@@ -28,7 +28,7 @@ unfolding digit
 no_gap byte d small low = grind (arith, nat_tests)
 
 -- digits have no byte that stands between them
-digits_apart : (byte : ℕ) → byte < 48 → (count n : ℕ) → All (λ c. eqb c byte ≡ false) (digits count n)
+pub digits_apart : (byte : ℕ) → byte < 48 → (count n : ℕ) → All (λ c. eqb c byte ≡ false) (digits count n)
 unfolding digits
 digits_apart byte low zero n = λ k d h. absurd (omega arith)
 digits_apart byte low (suc count) n = All-push (λ c. eqb c byte ≡ false) (digits count (n / 16)) (digit (n % 16)) (digits_apart byte low count (n / 16)) (no_gap byte (n % 16) (omega arith) low)
@@ -53,7 +53,7 @@ digits_number (suc count) n small =
     hex_on 0 (digits count (n / 16)) (digit (n % 16) ∷ []) ∙ ap (option_and_then (λ m. hex_behind m (digit (n % 16) ∷ []))) (digits_number count (n / 16) front)
     ∙ ap (option_and_then (λ v. hex_behind (n / 16 * 16 + v) [])) last ∙ ap Some whole
 
-digits_read : (count n : ℕ) → n < 16 ^ count → hex_number count (digits count n) ≡ Some n
+pub digits_read : (count n : ℕ) → n < 16 ^ count → hex_number count (digits count n) ≡ Some n
 digits_read count n small = hex_number_there count (digits count n) (digits_length count n) ∙ digits_number count n small
 
 -- ---- lines

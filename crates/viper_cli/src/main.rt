@@ -4,6 +4,8 @@
 #[cfg(test)]
 mod run_tests;
 #[cfg(test)]
+mod source_tests;
+#[cfg(test)]
 mod tests;
 
 use std::alloc::{AllocError, Global};

@@ -16,3 +16,4 @@ pub mod Outcomes
 pub mod Apart
 pub mod Headlines
 pub mod RunHeadline
+pub mod TextHeadlines

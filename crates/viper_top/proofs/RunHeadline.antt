@@ -10,7 +10,7 @@ use Rattle.viper_top.specs.Orders.{Run}
 use Rattle.viper_top.specs.Contents.{WholeImage, WholePlan, Script}
 use Rattle.viper_top.specs.Works.{Does, Reads, Walks}
 use Rattle.viper_top.specs.Run.{ran}
-use Rattle.viper_top.specs.Commands.{Runs, Ends, run_work, with_script}
+use Rattle.viper_top.specs.Commands.{Runs, Ends, over_image, with_plan, with_script}
 use Rattle.viper_top.specs.Promises.{Given, Answered}
 use Rattle.viper_top.specs.Headlines.{handed_as, AreFollowed, Followed}
 use Rattle.viper_top.proofs.Apart.{took_one, does_only}
@@ -27,10 +27,10 @@ record RunRead (image plan script : List ℕ) (steps : ℕ) (s0 s1 : Stock) (e :
   read : AreFollowed image plan script s0 s1 lines scripted
   ends : e ≡ ran lines scripted steps
 
-run_read : (image plan script : List ℕ) (steps : ℕ) (s0 s1 : Stock) (given : List Handed) (e : Ending) → Given s0 s1 given → (e.status ≡ Input → ⊥) → Walks Ends (run_work image plan script steps) given e
+run_read : (image plan script : List ℕ) (steps : ℕ) (s0 s1 : Stock) (given : List Handed) (e : Ending) → Given s0 s1 given → (e.status ≡ Input → ⊥) → Walks Ends (over_image image (with_plan plan script steps)) given e
     → RunRead image plan script steps s0 s1 e
 run_read image plan script steps s0 s1 given e g fine walks =
-    let i = took_one s0 s1 WholeImage image (λ words. Reads (WholePlan words) plan (with_script script steps)) given e g.each fine walks in
+    let i = took_one s0 s1 WholeImage image (with_plan plan script steps) given e g.each fine walks in
     let p = took_one s0 s1 (WholePlan i.value) plan (with_script script steps) i.others e i.each fine i.goes_on in
     let c = took_one s0 s1 (Script p.value) script (λ s. Does (Runs p.value s steps)) p.others e p.each fine p.goes_on in
     let d = does_only (Runs p.value c.value steps) c.others e c.goes_on in

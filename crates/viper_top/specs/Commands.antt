@@ -1,24 +1,31 @@
 -- The commands: what each reads, and how it may end.
 use Rattle.std.specs.Prelude.{◌≡◌, ℕ, List}
+use Rattle.memory_plan.specs.Images.{ImageWords}
 use Rattle.memory_plan.specs.Plans.{PlanLines}
 use Rattle.peripheral_run.specs.Scripts.{Scripted}
 use Rattle.viper_top.specs.Certificates.{Certificate}
 use Rattle.viper_top.specs.Endings.{Ending}
-use Rattle.viper_top.specs.Orders.{Order, Check, Run}
-use Rattle.viper_top.specs.Contents.{Image, Plan, Cert, WholeImage, WholePlan, Script}
+use Rattle.viper_top.specs.Orders.{Order, Check, Run, Assemble, Disasm}
+use Rattle.viper_top.specs.Contents.{Image, Plan, Cert, WholeImage, WholePlan, Script, Source}
 use Rattle.viper_top.specs.Works.{Work, Does, Reads}
 use Rattle.viper_top.specs.Check.{checked}
 use Rattle.viper_top.specs.Run.{ran}
+use Rattle.viper_top.specs.Assemble.{assembled}
+use Rattle.viper_top.specs.Disasm.{listed}
 
 -- what is to be done once all is read
 pub data Task : Type 0 where
   Checks : PlanLines → Certificate → Task
   Runs : PlanLines → Scripted → ℕ → Task
+  Assembles : ImageWords → Task
+  Lists : ImageWords → Task
 
 -- how a task may end
 abbrev pub Ends : Task → Ending → Type 0
 Ends (Checks plan cert) ending = ending ≡ checked plan cert
 Ends (Runs plan script steps) ending = ending ≡ ran plan script steps
+Ends (Assembles words) ending = ending ≡ assembled words
+Ends (Lists words) ending = ending ≡ listed words
 
 -- an image, and a plan over it
 abbrev pub over_plan : List ℕ → List ℕ → (PlanLines → Work Task) → Work Task
@@ -32,12 +39,21 @@ with_cert task cert plan = Reads Cert cert (λ c. Does (task plan c))
 abbrev pub with_script : List ℕ → ℕ → PlanLines → Work Task
 with_script script steps plan = Reads (Script plan) script (λ s. Does (Runs plan s steps))
 
--- a whole image, a whole plan over it, and a script
-abbrev pub run_work : List ℕ → List ℕ → List ℕ → ℕ → Work Task
-run_work image plan script steps =
-    Reads WholeImage image (λ words. Reads (WholePlan words) plan (with_script script steps))
+-- a whole plan over its image, and a script over that
+abbrev pub with_plan : List ℕ → List ℕ → ℕ → ImageWords → Work Task
+with_plan plan script steps words = Reads (WholePlan words) plan (with_script script steps)
+
+-- a source
+abbrev pub assemble_work : List ℕ → Work Task
+assemble_work source = Reads Source source (λ words. Does (Assembles words))
+
+-- a whole image, and how it goes on
+abbrev pub over_image : List ℕ → (ImageWords → Work Task) → Work Task
+over_image image next = Reads WholeImage image next
 
 -- what each command reads
 abbrev pub work_of : Order → Work Task
 work_of (Check image plan cert) = over_plan image plan (with_cert Checks cert)
-work_of (Run image plan script steps) = run_work image plan script steps
+work_of (Run image plan script steps) = over_image image (with_plan plan script steps)
+work_of (Assemble source image) = assemble_work source
+work_of (Disasm image) = over_image image (λ words. Does (Lists words))

@@ -10,11 +10,14 @@ use Rattle.memory_plan.specs.declared.text_fault.ImageFault.TheVariants as image
 use Rattle.memory_plan.specs.declared.text_fault.PlanRule.{PlanRule}
 use Rattle.memory_plan.specs.declared.text_fault.PlanRule.TheVariants as plan_rules
 use Rattle.memory_plan.specs.declared.text_fault.PlanFault.TheVariants as plan_faults
+use Rattle.field_asm.specs.Sources.{IsSource, source_fault}
+use Rattle.field_asm.specs.declared.fault.AsmRule.{AsmRule}
+use Rattle.field_asm.specs.declared.fault.AsmRule.TheVariants as source_rules
 use Rattle.peripheral_run.specs.Scripts.{Scripted, IsScript, IsScriptFault}
 use Rattle.peripheral_run.specs.declared.fault.ScriptRule.{ScriptRule}
 use Rattle.peripheral_run.specs.declared.fault.ScriptRule.TheVariants as script_rules
 use Rattle.peripheral_run.specs.declared.fault.ScriptFault.TheVariants as script_faults
-use Rattle.viper_top.specs.declared.stage.TheConstants.{IMAGE_LIMIT, PLAN_LIMIT, CERT_LIMIT, SCRIPT_LIMIT}
+use Rattle.viper_top.specs.declared.stage.TheConstants.{IMAGE_LIMIT, PLAN_LIMIT, CERT_LIMIT, SCRIPT_LIMIT, SOURCE_LIMIT}
 use Rattle.viper_top.specs.Certificates.{Certificate, IsCertificate}
 
 -- A plan is read over its image, a script over its plan. `check` reads the plainest images and plans so far;
@@ -26,6 +29,7 @@ pub data Kind : Type 0 where
   WholeImage : Kind
   WholePlan : List (ℕ × ℕ) → Kind
   Script : PlanLines → Kind
+  Source : Kind
 
 -- what the bytes of a kind spell
 abbrev pub Value : Kind → Type 0
@@ -35,6 +39,7 @@ Value Cert = Certificate
 Value WholeImage = List (ℕ × ℕ)
 Value (WholePlan image) = PlanLines
 Value (Script plan) = Scripted
+Value Source = List (ℕ × ℕ)
 
 -- what texts call it
 abbrev pub title_of : Kind → List ℕ
@@ -44,6 +49,7 @@ title_of Cert = codes "cert"
 title_of WholeImage = codes "image"
 title_of (WholePlan image) = codes "plan"
 title_of (Script plan) = codes "script"
+title_of Source = codes "source"
 
 -- how many bytes it has at the most
 abbrev pub limit_of : Kind → ℕ
@@ -53,6 +59,7 @@ limit_of Cert = CERT_LIMIT
 limit_of WholeImage = IMAGE_LIMIT
 limit_of (WholePlan image) = PLAN_LIMIT
 limit_of (Script plan) = SCRIPT_LIMIT
+limit_of Source = SOURCE_LIMIT
 
 -- what bytes spell
 abbrev pub Spells : (kind : Kind) → List ℕ → Value kind → Type 0
@@ -62,6 +69,7 @@ Spells Cert = IsCertificate
 Spells WholeImage = IsImage
 Spells (WholePlan image) = IsPlan image
 Spells (Script plan) = IsScript plan
+Spells Source = IsSource
 
 -- the fault of a content that is none of the forms that are read: it has no place and no rule
 pub data OfNoForm : Type 0 where
@@ -80,6 +88,7 @@ Fault Cert = OfNoForm
 Fault WholeImage = AtLine ImageRule
 Fault (WholePlan image) = AtLine PlanRule
 Fault (Script plan) = AtLine ScriptRule
+Fault Source = AtLine AsmRule
 
 -- the bytes spell no value
 pub record SpellsNone {V : Type 0} (Is : List ℕ → V → Type 0) (bytes : List ℕ) : Type 0 where
@@ -93,6 +102,7 @@ Breaks Cert bytes fault = SpellsNone IsCertificate bytes
 Breaks WholeImage bytes fault = IsImageFault bytes (image_faults.At fault.line fault.rule)
 Breaks (WholePlan image) bytes fault = IsPlanFault image bytes (plan_faults.At fault.line fault.rule)
 Breaks (Script plan) bytes fault = IsScriptFault plan bytes (script_faults.At fault.line fault.rule)
+Breaks Source bytes fault = source_fault bytes fault.line fault.rule
 
 -- the names of the rules
 abbrev pub image_rule : ImageRule → List ℕ
@@ -114,6 +124,14 @@ abbrev pub script_rule : ScriptRule → List ℕ
 script_rule script_rules.Form = codes "Form"
 script_rule script_rules.Start = codes "Start"
 
+abbrev pub source_rule : AsmRule → List ℕ
+source_rule source_rules.Form = codes "Form"
+source_rule source_rules.Name = codes "Name"
+source_rule source_rules.Number = codes "Number"
+source_rule source_rules.Twice = codes "Twice"
+source_rule source_rules.Range = codes "Range"
+source_rule source_rules.Label = codes "Label"
+
 -- the text of a rule that a line breaks
 unfoldable pub line_text : List ℕ → ℕ → List ℕ → List ℕ
 line_text title line rule = title ++ codes " line " ++ decimal line ++ codes " " ++ rule ++ codes "\n"
@@ -130,6 +148,7 @@ fault_text Cert fault = unbuilt_text (title_of Cert)
 fault_text WholeImage fault = line_text (title_of WholeImage) fault.line (image_rule fault.rule)
 fault_text (WholePlan image) fault = line_text (title_of (WholePlan image)) fault.line (plan_rule fault.rule)
 fault_text (Script plan) fault = line_text (title_of (Script plan)) fault.line (script_rule fault.rule)
+fault_text Source fault = line_text (title_of Source) fault.line (source_rule fault.rule)
 
 -- the text for more bytes than the limit
 abbrev pub long_text : Kind → List ℕ

@@ -3,7 +3,7 @@ use Rattle.std.specs.Prelude.{◌≡◌, ℕ, ◌≤◌, List, [], ◌∷◌, �
 use Rattle.memory_plan.specs.Plans.{PlanLines}
 use Rattle.memory_plan.specs.Runs.{CanRun}
 use Rattle.memory_plan.specs.FirstForms.{IsFirstImage, IsFirstPlan}
-use Rattle.viper_io.specs.Causes.{Stock, Output, Handed, Wrote}
+use Rattle.viper_io.specs.Causes.{Stock, Output, Handed, Wrote, HoldsWhereTold}
 use Rattle.viper_top.specs.declared.status.Status.{Status}
 use Rattle.viper_top.specs.declared.cert_checker.Refusal.{Refusal}
 use Rattle.viper_top.specs.Certificates.{Certificate, IsCertificate}
@@ -12,11 +12,14 @@ use Rattle.viper_top.specs.Verdicts.{bounds_of}
 use Rattle.viper_top.specs.Claims.{Holds, FailsFirst}
 use Rattle.viper_top.specs.Texts.{yes_text, no_text}
 use Rattle.viper_top.specs.Endings.{Ending}
-use Rattle.memory_plan.specs.Images.{IsImage}
+use Rattle.memory_plan.specs.Images.{ImageWords, IsImage, image_text}
 use Rattle.memory_plan.specs.PlanText.{IsPlan}
 use Rattle.peripheral_run.specs.Scripts.{Scripted, IsScript}
+use Rattle.field_asm.specs.Sources.{IsSource}
+use Rattle.disasm_view.specs.Listings.{listing}
+use Rattle.viper_top.specs.Assemble.{words_text}
 use Rattle.viper_top.specs.Run.{ran}
-use Rattle.viper_top.specs.Contents.{Kind, Image, Plan, Cert, WholeImage, WholePlan, Script, Value, limit_of, Spells}
+use Rattle.viper_top.specs.Contents.{Kind, Image, Plan, Cert, WholeImage, WholePlan, Script, Source, Value, limit_of, Spells}
 
 -- the bytes of a name, as a content of that kind
 abbrev pub handed_as : Kind → List ℕ → List ℕ → Handed
@@ -107,3 +110,28 @@ pub record Followed (image plan script : List ℕ) (steps : ℕ) (before now : S
   pub read : AreFollowed image plan script before now lines scripted
   pub status : ends ≡ (ran lines scripted steps).status
   pub put : Wrote out_before.text (ran lines scripted steps).text out_now.text
+
+-- ---- assemble and disasm
+
+-- These bytes of the kind were handed out in this call, and nothing else; where the store tells, they are
+-- what the name holds; and they spell the value.
+pub record IsOnlyRead (kind : Kind) (name : List ℕ) (before now : Stock) (value : Value kind) : Type 0 where
+  pub bytes : List ℕ
+  pub handed : now.handed ≡ before.handed ++ handed_as kind name bytes ∷ []
+  pub told : before.tells ≡ true → before.holds name ≡ Some bytes
+  pub is : Spells kind bytes value
+
+-- Done: what was read is a source of an image, whose text stands under the other name where the store tells,
+-- and the number of its words was put.
+pub record Assembled (source image : List ℕ) (before now : Stock) (out_before out_now : Output) : Type 0 where
+  pub words : ImageWords
+  pub read : IsOnlyRead Source source before now words
+  pub placed : HoldsWhereTold now.tells (now.holds image) (image_text words)
+  pub put : Wrote out_before.text (words_text words) out_now.text
+
+-- Done: what was read is an image, whose listing was put, which is a source of that image.
+pub record Listed (image : List ℕ) (before now : Stock) (out_before out_now : Output) : Type 0 where
+  pub words : ImageWords
+  pub read : IsOnlyRead WholeImage image before now words
+  pub put : Wrote out_before.text (listing words) out_now.text
+  pub assembles : IsSource (listing words) words

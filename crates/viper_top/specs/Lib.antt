@@ -15,3 +15,5 @@ pub mod Commands
 pub mod Promises
 pub mod Headlines
 pub mod Stages
+pub mod Assemble
+pub mod Disasm

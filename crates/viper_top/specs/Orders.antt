@@ -10,18 +10,30 @@ use Rattle.std.specs.Str.{bytes_eq}
 pub data Order : Type 0 where
   Check : (image plan cert : List ℕ) → Order
   Run : (image plan script : List ℕ) → (steps : ℕ) → Order
+  Assemble : (source image : List ℕ) → Order
+  Disasm : (image : List ℕ) → Order
 
 -- the name that a command places
 abbrev pub target_of : Order → Option (List ℕ)
 target_of (Check image plan cert) = None
 target_of (Run image plan script steps) = None
+target_of (Assemble source image) = Some image
+target_of (Disasm image) = None
 
 -- not empty, and no option
 abbrev pub is_plain : List ℕ → Bool
 is_plain [] = false
 is_plain (c ∷ cs) = not (c == 45)
 
--- the rows with three names, by their first word
+-- the row with one name, by its first word
+abbrev pub one_name : List ℕ → List ℕ → Option Order
+one_name word a = if bytes_eq word (codes "disasm") then Some (Disasm a) else None
+
+-- the row with two names
+abbrev pub two_names : List ℕ → List ℕ → List ℕ → Option Order
+two_names word a b = if bytes_eq word (codes "assemble") then Some (Assemble a b) else None
+
+-- the row with three names
 abbrev pub three_names : List ℕ → List ℕ → List ℕ → List ℕ → Option Order
 three_names word a b c = if bytes_eq word (codes "check") then Some (Check a b c) else None
 
@@ -39,6 +51,8 @@ names_and_steps word a b c d =
 
 -- the rows; where the words are none of them, they are no command
 abbrev pub order_of : List (List ℕ) → Option Order
+order_of (word ∷ a ∷ []) = if is_plain a then one_name word a else None
+order_of (word ∷ a ∷ b ∷ []) = if is_plain a && is_plain b then two_names word a b else None
 order_of (word ∷ a ∷ b ∷ c ∷ []) = if is_plain a && is_plain b && is_plain c then three_names word a b c else None
 order_of (word ∷ a ∷ b ∷ c ∷ d ∷ []) = if is_plain a && is_plain b && is_plain c then names_and_steps word a b c d else None
 order_of _ = None

@@ -1,5 +1,6 @@
 -- What is still to be read at each stage of the program. No public clause speaks of it.
 use Rattle.std.specs.Prelude.{◌≡◌, ℕ, ◌<◌, ◌≤◌, length, List, [], ◌∷◌, Option, Some, None, Result, Ok, Err, ◌⊎◌}
+use Rattle.memory_plan.specs.Images.{ImageWords}
 use Rattle.memory_plan.specs.Plans.{PlanLines}
 use Rattle.viper_io.specs.Causes.{Stock, Handed}
 use Rattle.viper_io.specs.declared.fault.Call.TheVariants.{Fetch}
@@ -11,6 +12,8 @@ use Rattle.viper_top.specs.declared.command_line.Command.{Command}
 use Rattle.viper_top.specs.declared.command_line.Command.TheVariants as command
 use Rattle.viper_top.specs.declared.stage.OverPlan.{OverPlan}
 use Rattle.viper_top.specs.declared.stage.OverPlan.TheVariants as then
+use Rattle.viper_top.specs.declared.stage.OverImage.{OverImage}
+use Rattle.viper_top.specs.declared.stage.OverImage.TheVariants as over
 use Rattle.viper_top.specs.declared.stage.Stage.{Stage}
 use Rattle.viper_top.specs.declared.stage.Stage.TheVariants as stage
 use Rattle.viper_top.specs.declared.stage.Next.{Next}
@@ -19,16 +22,18 @@ use Rattle.viper_top.specs.declared.task.Task.{Task as Job}
 use Rattle.viper_top.specs.declared.task.Task.TheVariants as job
 use Rattle.viper_top.specs.Certificates.{cert_view}
 use Rattle.viper_top.specs.Endings.{Ending, done, made, refused, input}
-use Rattle.viper_top.specs.Orders.{Order, Check, Run}
+use Rattle.viper_top.specs.Orders.{Order, Check, Run, Assemble, Disasm}
 use Rattle.viper_top.specs.Contents.{Kind, Plan, WholePlan, Value, Fault, title_of, limit_of, long_text, Spells, Breaks, fault_text}
 use Rattle.viper_top.specs.Works.{Work, Does, Reads, Walks, Awaits}
-use Rattle.viper_top.specs.Commands.{Task, Checks, Runs, Ends, over_plan, with_cert, run_work, with_script}
+use Rattle.viper_top.specs.Commands.{Task, Checks, Runs, Assembles, Lists, Ends, over_plan, with_cert, with_plan, with_script, over_image, assemble_work}
 use Rattle.viper_top.specs.Promises.{Given, Failed, Grew}
 
 -- as the program holds them
 abbrev pub order_view : Command → Order
 order_view (command.Check i p c) = Check i.now p.now c.now
 order_view (command.Run i p s n) = Run i.now p.now s.now n
+order_view (command.Assemble s i) = Assemble s.now i.now
+order_view (command.Disasm i) = Disasm i.now
 
 abbrev pub ending_of : Answer → Ending
 ending_of (answer.Done text) = done text.items
@@ -40,28 +45,37 @@ ending_of (answer.Input text) = input text.items
 abbrev pub left_over : OverPlan → PlanLines → Work Task
 left_over (then.Check cert) plan = with_cert Checks cert.now plan
 
+-- what comes after a whole image
+abbrev pub left_behind : OverImage → ImageWords → Work Task
+left_behind (over.Run plan script steps) words = with_plan plan.now script.now steps words
+left_behind over.List words = Does (Lists words)
+
 -- what is still to be read
 abbrev pub left : Stage → Work Task
 left (stage.Image image plan then) = over_plan image.now plan.now (left_over then)
 left (stage.Plan image plan then) = Reads (Plan image) plan.now (left_over then)
 left (stage.Cert plan cert) = with_cert Checks cert.now plan
-left (stage.WholeImage image plan script steps) = run_work image.now plan.now script.now steps
+left (stage.WholeImage image then) = over_image image.now (left_behind then)
 left (stage.WholePlan image plan script steps) = Reads (WholePlan image) plan.now (with_script script.now steps)
 left (stage.Script plan script steps) = with_script script.now steps plan
+left (stage.Source source) = assemble_work source.now
 
 -- how many contents that are at the most
 abbrev pub count_left : Stage → ℕ
 count_left (stage.Image image plan then) = 3
 count_left (stage.Plan image plan then) = 2
 count_left (stage.Cert plan cert) = 1
-count_left (stage.WholeImage image plan script steps) = 3
+count_left (stage.WholeImage image then) = 3
 count_left (stage.WholePlan image plan script steps) = 2
 count_left (stage.Script plan script steps) = 1
+count_left (stage.Source source) = 1
 
 -- what is to be done, as the program holds it
 abbrev pub task_of : Job → Task
 task_of (job.Check plan cert) = Checks plan (cert_view cert)
 task_of (job.Run plan script steps) = Runs plan script steps
+task_of (job.Assemble image) = Assembles image
+task_of (job.Disasm image) = Lists image
 
 -- the program goes on as the work does
 abbrev pub Follows : Work Task → Next → Type 0

@@ -2,7 +2,9 @@ ghost use Rattle.std.specs.Prelude.{◌≡◌, ◌++◌, IfOk, codes};
 ghost use Rattle.viper_top.specs.declared.answer.Stop.TheVariants as stops;
 
 use crate::status::Status;
-use std::alloc::{AllocError, Global};
+use line_text::LineText;
+use std::alloc::Global;
+use viper_word::Memory;
 
 /// How a command ends that no failure outside cut off (README.md, "Statuses and texts").
 #[derive(Debug, Drop)]
@@ -26,10 +28,10 @@ pub enum Stop {
     Memory,
 }
 
-impl From<AllocError> for Stop {
+impl From<Memory> for Stop {
     ghost from_gives = { λ _ e. e ≡ stops.Memory };
 
-    fn from(_: AllocError) -> Stop {
+    fn from(_: Memory) -> Stop {
         Stop::Memory
     }
 }
@@ -40,38 +42,49 @@ impl Answer {
     ghost use Rattle.viper_top.specs.Contents.{line_text};
 
     /// A content with this title is none of the forms that are read.
-    pub fn unbuilt(alloc: Global, title: &str) -> Result<Answer, AllocError>
+    pub fn unbuilt(alloc: Global, title: &str) -> Result<Answer, Memory>
         ensures { IfOk result (λ a. ending_of a
             ≡ input (codes "unbuilt " ++ title.now ++ codes "\n")) }
     {
-        let mut text = Vec::from_slice(alloc, b"unbuilt ")?;
-        text.extend_from_slice(title.as_bytes())?;
-        text.extend_from_slice(b"\n")?;
-        Ok(Answer::Input { text })
+        let mut text = LineText::new(alloc);
+        text.plain("unbuilt ")?;
+        text.plain(title)?;
+        text.plain("\n")?;
+        Ok(Answer::input(text))
     }
 
     /// The line of a content with this title breaks a rule.
     #[tactic(auto, unfolding(crate::specs::Contents::line_text))]
-    pub fn at_line(alloc: Global, title: &str, line: u32, rule: &str) -> Result<Answer, AllocError>
+    pub fn at_line(alloc: Global, title: &str, line: u32, rule: &str) -> Result<Answer, Memory>
         ensures { IfOk result (λ a. ending_of a ≡ input (line_text title.now line rule.now)) }
     {
-        let mut text = Vec::from_slice(alloc, title.as_bytes())?;
-        let line = line.to_string(alloc)?;
-        text.extend_from_slice(b" line ")?;
-        text.extend_from_slice(line.as_bytes())?;
-        text.extend_from_slice(b" ")?;
-        text.extend_from_slice(rule.as_bytes())?;
-        text.extend_from_slice(b"\n")?;
-        Ok(Answer::Input { text })
+        let mut text = LineText::new(alloc);
+        text.plain(title)?;
+        text.plain(" line ")?;
+        text.number(line.into())?;
+        text.plain(" ")?;
+        text.plain(rule)?;
+        text.plain("\n")?;
+        Ok(Answer::input(text))
     }
 
     /// A content with this title is over its limit.
-    pub fn too_long(alloc: Global, title: &str) -> Result<Answer, AllocError>
+    pub fn too_long(alloc: Global, title: &str) -> Result<Answer, Memory>
         ensures { IfOk result (λ a. ending_of a ≡ input (title.now ++ codes " long\n")) }
     {
-        let mut text = Vec::from_slice(alloc, title.as_bytes())?;
-        text.extend_from_slice(b" long\n")?;
-        Ok(Answer::Input { text })
+        let mut text = LineText::new(alloc);
+        text.plain(title)?;
+        text.plain(" long\n")?;
+        Ok(Answer::input(text))
+    }
+
+    /// A content can't be read, with this text.
+    fn input(text: LineText) -> Answer
+        ensures { ending_of result ≡ input text }
+    {
+        Answer::Input {
+            text: text.into_bytes(),
+        }
     }
 
     /// The status that it has.

@@ -1,5 +1,5 @@
 ghost use Rattle.std.specs.Prelude.{◌≡◌, option_map};
-ghost use Rattle.viper_top.specs.Orders.{is_plain, order_in, three_names, steps_of, names_and_steps, target_of};
+ghost use Rattle.viper_top.specs.Orders.{is_plain, order_in, one_name, two_names, three_names, steps_of, names_and_steps, target_of};
 ghost use Rattle.viper_top.specs.Stages.{order_view};
 
 use memory_plan::natural;
@@ -26,6 +26,10 @@ pub enum Command<'a> {
         script: &'a str,
         steps: u64,
     },
+    /// `assemble SRC IMAGE`
+    Assemble { source: &'a str, image: &'a str },
+    /// `disasm IMAGE`
+    Disasm { image: &'a str },
 }
 
 /// Is the word a name: not empty, and no option?
@@ -43,6 +47,8 @@ pub fn command_of<'a>(words: &[&'a str]) -> Option<Command<'a>>
     ensures { option_map order_view result ≡ order_in words.now }
 {
     match words {
+        [word, a] if is_plain(a) => one_name(word, a),
+        [word, a, b] if is_plain(a) && is_plain(b) => two_names(word, a, b),
         [word, a, b, c] if is_plain(a) && is_plain(b) && is_plain(c) => three_names(word, a, b, c),
         [word, a, b, c, d] if is_plain(a) && is_plain(b) && is_plain(c) => {
             names_and_steps(word, a, b, c, d)
@@ -90,6 +96,29 @@ fn names_and_steps<'a>(
     }
 }
 
+/// The command of this word with one name.
+fn one_name<'a>(word: &str, a: &'a str) -> Option<Command<'a>>
+    ensures { option_map order_view result ≡ one_name word.now a.now }
+{
+    match word {
+        "disasm" => Some(Command::Disasm { image: a }),
+        _ => None,
+    }
+}
+
+/// The command of this word with two names.
+fn two_names<'a>(word: &str, a: &'a str, b: &'a str) -> Option<Command<'a>>
+    ensures { option_map order_view result ≡ two_names word.now a.now b.now }
+{
+    match word {
+        "assemble" => Some(Command::Assemble {
+            source: a,
+            image: b,
+        }),
+        _ => None,
+    }
+}
+
 /// The command of this word with three names.
 fn three_names<'a>(word: &str, a: &'a str, b: &'a str, c: &'a str) -> Option<Command<'a>>
     ensures { option_map order_view result ≡ three_names word.now a.now b.now c.now }
@@ -110,7 +139,8 @@ impl<'a> Command<'a> {
         ensures { option_map (λ n. n.now) result ≡ target_of (order_view self.now) }
     {
         match *self {
-            Command::Check { .. } | Command::Run { .. } => None,
+            Command::Check { .. } | Command::Run { .. } | Command::Disasm { .. } => None,
+            Command::Assemble { image, .. } => Some(image),
         }
     }
 }

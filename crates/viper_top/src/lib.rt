@@ -10,10 +10,12 @@
 
 mod abs_step;
 mod answer;
+mod assemble;
 mod cert_checker;
 mod cert_format;
 mod check;
 mod command_line;
+mod disasm;
 mod ending;
 mod flag_relation;
 mod interval_dom;

@@ -1,8 +1,9 @@
 //! The names of the rules that a line may break.
 
 ghost use Rattle.std.specs.Prelude.{◌≡◌};
-ghost use Rattle.viper_top.specs.Contents.{image_rule, plan_rule, script_rule};
+ghost use Rattle.viper_top.specs.Contents.{image_rule, plan_rule, script_rule, source_rule};
 
+use field_asm::AsmRule;
 use memory_plan::{ImageRule, PlanRule};
 use peripheral_run::ScriptRule;
 
@@ -40,5 +41,19 @@ pub fn script_rule(rule: ScriptRule) -> &'static str
     match rule {
         ScriptRule::Form => "Form",
         ScriptRule::Start => "Start",
+    }
+}
+
+/// The name of a source's rule (docs/FORMATS.md, "Sources").
+pub fn source_rule(rule: AsmRule) -> &'static str
+    ensures { result.now ≡ source_rule rule }
+{
+    match rule {
+        AsmRule::Form => "Form",
+        AsmRule::Name => "Name",
+        AsmRule::Number => "Number",
+        AsmRule::Twice => "Twice",
+        AsmRule::Range => "Range",
+        AsmRule::Label => "Label",
     }
 }

@@ -1,22 +1,24 @@
 ghost use Rattle.std.specs.Prelude.{◌≡◌, ◌<◌, ◌≤◌, length, IfOk};
 ghost use Rattle.viper_top.specs.declared.stage.Stage.TheVariants as stages;
-ghost use Rattle.viper_top.specs.declared.stage.TheConstants.{IMAGE_LIMIT, PLAN_LIMIT, SCRIPT_LIMIT};
+ghost use Rattle.viper_top.specs.declared.stage.TheConstants.{IMAGE_LIMIT, PLAN_LIMIT, SCRIPT_LIMIT, SOURCE_LIMIT};
 ghost use Rattle.viper_top.specs.Contents.{Image as image_kind, Plan as plan_kind, Cert as cert_kind};
-ghost use Rattle.viper_top.specs.Contents.{WholeImage as whole_image_kind, WholePlan as whole_plan_kind, Script as script_kind};
+ghost use Rattle.viper_top.specs.Contents.{WholeImage as whole_image_kind, WholePlan as whole_plan_kind, Script as script_kind, Source as source_kind};
 ghost use Rattle.viper_top.specs.Works.{Does, Reads};
-ghost use Rattle.viper_top.specs.Commands.{work_of, Checks, Runs, with_script};
-ghost use Rattle.viper_top.specs.Stages.{order_view, left, left_over, count_left, Follows, Asks, FitsIn, Took, TookIn, IsFewer};
+ghost use Rattle.viper_top.specs.Commands.{work_of, Checks, Runs, Assembles, with_script};
+ghost use Rattle.viper_top.specs.Stages.{order_view, left, left_over, left_behind, count_left, Follows, Asks, FitsIn, Took, TookIn, IsFewer};
 
 use crate::answer::Answer;
 use crate::cert_format::read_cert;
 use crate::command_line::Command;
-use crate::rules::{image_rule, plan_rule, script_rule};
+use crate::rules::{image_rule, plan_rule, script_rule, source_rule};
 use crate::task::Task;
+use field_asm::{AsmFault, assemble};
 use memory_plan::{
     FirstFault, Image, ImageFault, Plan, PlanFault, first_image, first_plan, read_image, read_plan,
 };
 use peripheral_run::{ScriptFault, read_script};
-use std::alloc::{AllocError, Global};
+use std::alloc::Global;
+use viper_word::Memory;
 
 /// How many bytes an image has at the most.
 const IMAGE_LIMIT: u64 = 15_728_640;
@@ -29,6 +31,22 @@ const CERT_LIMIT: u64 = 64_000_000;
 
 /// How many bytes a script has at the most.
 const SCRIPT_LIMIT: u64 = 16_000_000;
+
+/// How many bytes a source has at the most.
+const SOURCE_LIMIT: u64 = 33_554_432;
+
+/// What comes after a whole image.
+#[derive(Clone, Copy)]
+pub enum OverImage<'a> {
+    /// A whole plan over it, and a script over that, over which so many steps are run.
+    Run {
+        plan: &'a str,
+        script: &'a str,
+        steps: u64,
+    },
+    /// It is listed.
+    List,
+}
 
 /// What comes after a plan.
 #[derive(Clone, Copy)]
@@ -57,13 +75,8 @@ pub enum Stage<'a> {
         plan: Plan,
         cert: &'a str,
     },
-    /// A whole image, then a whole plan over it, and a script.
-    WholeImage {
-        image: &'a str,
-        plan: &'a str,
-        script: &'a str,
-        steps: u64,
-    },
+    /// A whole image.
+    WholeImage { image: &'a str, then: OverImage<'a> },
     /// A whole plan over its image, and then a script.
     WholePlan {
         image: Image,
@@ -77,6 +90,8 @@ pub enum Stage<'a> {
         script: &'a str,
         steps: u64,
     },
+    /// A source, of which the image is written.
+    Source { source: &'a str },
 }
 
 /// How a command goes on.
@@ -115,9 +130,16 @@ pub fn begin<'a>(command: &Command<'a>) -> Next<'a>
             steps,
         } => Next::Due(Stage::WholeImage {
             image,
-            plan,
-            script,
-            steps,
+            then: OverImage::Run {
+                plan,
+                script,
+                steps,
+            },
+        }),
+        Command::Assemble { source, .. } => Next::Due(Stage::Source { source }),
+        Command::Disasm { image } => Next::Due(Stage::WholeImage {
+            image,
+            then: OverImage::List,
         }),
     }
 }
@@ -128,7 +150,7 @@ fn take_image<'a>(
     bytes: &[u8],
     plan: &'a str,
     then: OverPlan<'a>,
-) -> Result<Next<'a>, AllocError>
+) -> Result<Next<'a>, Memory>
     ensures took { IfOk result (Took image_kind
         (λ words. Reads (plan_kind words) plan.now (left_over then.entry)) bytes.now) }
     ensures fewer { IfOk result (IsFewer 3) }
@@ -136,7 +158,7 @@ fn take_image<'a>(
     match first_image(alloc, bytes) {
         Ok(image) => Ok(Next::Due(Stage::Plan { image, plan, then })),
         Err(FirstFault::Unbuilt) => Ok(Next::Over(Answer::unbuilt(alloc, "image")?)),
-        Err(FirstFault::Memory) => Err(AllocError),
+        Err(FirstFault::Memory) => Err(Memory),
     }
 }
 
@@ -146,14 +168,14 @@ fn take_plan<'a>(
     bytes: &[u8],
     image: &Image,
     then: OverPlan<'a>,
-) -> Result<Next<'a>, AllocError>
+) -> Result<Next<'a>, Memory>
     ensures took { IfOk result (Took (plan_kind image.now) (left_over then.entry) bytes.now) }
     ensures fewer { IfOk result (IsFewer 2) }
 {
     match first_plan(alloc, bytes, image) {
         Ok(plan) => Ok(after_plan(plan, then)),
         Err(FirstFault::Unbuilt) => Ok(Next::Over(Answer::unbuilt(alloc, "plan")?)),
-        Err(FirstFault::Memory) => Err(AllocError),
+        Err(FirstFault::Memory) => Err(Memory),
     }
 }
 
@@ -168,14 +190,14 @@ fn after_plan<'a>(plan: Plan, then: OverPlan<'a>) -> Next<'a>
 }
 
 /// A certificate was handed out.
-fn take_cert<'a>(alloc: Global, bytes: &[u8], plan: Plan) -> Result<Next<'a>, AllocError>
+fn take_cert<'a>(alloc: Global, bytes: &[u8], plan: Plan) -> Result<Next<'a>, Memory>
     ensures took { IfOk result (Took cert_kind (λ c. Does (Checks plan c)) bytes.now) }
     ensures fewer { IfOk result (IsFewer 1) }
 {
     match read_cert(alloc, bytes) {
         Ok(cert) => Ok(Next::Ready(Task::Check { plan, cert })),
         Err(FirstFault::Unbuilt) => Ok(Next::Over(Answer::unbuilt(alloc, "cert")?)),
-        Err(FirstFault::Memory) => Err(AllocError),
+        Err(FirstFault::Memory) => Err(Memory),
     }
 }
 
@@ -183,27 +205,39 @@ fn take_cert<'a>(alloc: Global, bytes: &[u8], plan: Plan) -> Result<Next<'a>, Al
 fn take_whole_image<'a>(
     alloc: Global,
     bytes: &[u8],
-    plan: &'a str,
-    script: &'a str,
-    steps: u64,
-) -> Result<Next<'a>, AllocError>
+    then: OverImage<'a>,
+) -> Result<Next<'a>, Memory>
     requires { length bytes.now ≤ IMAGE_LIMIT }
-    ensures took { IfOk result (Took whole_image_kind (λ words.
-        Reads (whole_plan_kind words) plan.now (with_script script.now steps)) bytes.now) }
+    ensures took { IfOk result (Took whole_image_kind (left_behind then.entry) bytes.now) }
     ensures fewer { IfOk result (IsFewer 3) }
 {
     match read_image(alloc, bytes) {
-        Ok(image) => Ok(Next::Due(Stage::WholePlan {
-            image,
-            plan,
-            script,
-            steps,
-        })),
+        Ok(image) => Ok(after_image(image, then)),
         Err(ImageFault::At { line, rule }) => {
             let answer = Answer::at_line(alloc, "image", line, image_rule(rule))?;
             Ok(Next::Over(answer))
         }
-        Err(ImageFault::Memory) => Err(AllocError),
+        Err(ImageFault::Memory) => Err(Memory),
+    }
+}
+
+/// What comes after a whole image that was read.
+fn after_image<'a>(image: Image, then: OverImage<'a>) -> Next<'a>
+    ensures follows { Follows (left_behind then.entry image) result }
+    ensures fewer { IsFewer 3 result }
+{
+    match then {
+        OverImage::Run {
+            plan,
+            script,
+            steps,
+        } => Next::Due(Stage::WholePlan {
+            image,
+            plan,
+            script,
+            steps,
+        }),
+        OverImage::List => Next::Ready(Task::Disasm { image }),
     }
 }
 
@@ -214,7 +248,7 @@ fn take_whole_plan<'a>(
     image: &Image,
     script: &'a str,
     steps: u64,
-) -> Result<Next<'a>, AllocError>
+) -> Result<Next<'a>, Memory>
     requires { length bytes.now ≤ PLAN_LIMIT }
     ensures took { IfOk result (Took (whole_plan_kind image.now)
         (with_script script.now steps) bytes.now) }
@@ -230,7 +264,7 @@ fn take_whole_plan<'a>(
             let answer = Answer::at_line(alloc, "plan", line, plan_rule(rule))?;
             Ok(Next::Over(answer))
         }
-        Err(PlanFault::Memory) => Err(AllocError),
+        Err(PlanFault::Memory) => Err(Memory),
     }
 }
 
@@ -240,7 +274,7 @@ fn take_script<'a>(
     bytes: &[u8],
     plan: Plan,
     steps: u64,
-) -> Result<Next<'a>, AllocError>
+) -> Result<Next<'a>, Memory>
     requires { length bytes.now ≤ SCRIPT_LIMIT }
     ensures took { IfOk result (Took (script_kind plan)
         (λ s. Does (Runs plan s steps)) bytes.now) }
@@ -256,7 +290,23 @@ fn take_script<'a>(
             let answer = Answer::at_line(alloc, "script", line, script_rule(rule))?;
             Ok(Next::Over(answer))
         }
-        Err(ScriptFault::Memory) => Err(AllocError),
+        Err(ScriptFault::Memory) => Err(Memory),
+    }
+}
+
+/// A source was handed out.
+fn take_source<'a>(alloc: Global, bytes: &[u8]) -> Result<Next<'a>, Memory>
+    requires { length bytes.now ≤ SOURCE_LIMIT }
+    ensures took { IfOk result (Took source_kind (λ words. Does (Assembles words)) bytes.now) }
+    ensures fewer { IfOk result (IsFewer 1) }
+{
+    match assemble(alloc, bytes) {
+        Ok(image) => Ok(Next::Ready(Task::Assemble { image })),
+        Err(AsmFault::At { line, rule }) => {
+            let answer = Answer::at_line(alloc, "source", line, source_rule(rule))?;
+            Ok(Next::Over(answer))
+        }
+        Err(AsmFault::Memory) => Err(Memory),
     }
 }
 
@@ -296,12 +346,17 @@ impl<'a> Stage<'a> {
                 limit: SCRIPT_LIMIT,
                 title: "script",
             },
+            Stage::Source { source } => Asked {
+                name: source,
+                limit: SOURCE_LIMIT,
+                title: "source",
+            },
         }
     }
 
     /// Takes the bytes that were handed out: what they spell goes on, and what breaks their grammar
     /// ends the command.
-    pub fn take(self, alloc: Global, bytes: &[u8]) -> Result<Next<'a>, AllocError>
+    pub fn take(self, alloc: Global, bytes: &[u8]) -> Result<Next<'a>, Memory>
         requires { FitsIn (left self) bytes.now }
         ensures took { IfOk result (TookIn (left self.entry) bytes.now) }
         ensures fewer { IfOk result (IsFewer (count_left self.entry)) }
@@ -310,12 +365,7 @@ impl<'a> Stage<'a> {
             Stage::Image { plan, then, .. } => take_image(alloc, bytes, plan, then),
             Stage::Plan { image, then, .. } => take_plan(alloc, bytes, &image, then),
             Stage::Cert { plan, .. } => take_cert(alloc, bytes, plan),
-            Stage::WholeImage {
-                plan,
-                script,
-                steps,
-                ..
-            } => take_whole_image(alloc, bytes, plan, script, steps),
+            Stage::WholeImage { then, .. } => take_whole_image(alloc, bytes, then),
             Stage::WholePlan {
                 image,
                 script,
@@ -323,6 +373,7 @@ impl<'a> Stage<'a> {
                 ..
             } => take_whole_plan(alloc, bytes, &image, script, steps),
             Stage::Script { plan, steps, .. } => take_script(alloc, bytes, plan, steps),
+            Stage::Source { .. } => take_source(alloc, bytes),
         }
     }
 }

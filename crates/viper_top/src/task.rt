@@ -4,11 +4,14 @@ ghost use Rattle.viper_top.specs.Stages.{task_of, ending_of};
 
 use crate::answer::Answer;
 use crate::cert_format::Cert;
+use crate::assemble::write;
 use crate::check::judge;
+use crate::disasm::list;
 use crate::run::follow;
-use memory_plan::Plan;
+use memory_plan::{Image, Plan};
 use peripheral_run::Script;
-use std::alloc::{AllocError, Global};
+use std::alloc::Global;
+use viper_word::Memory;
 
 /// What is to be done once all is read.
 #[derive(Drop)]
@@ -24,10 +27,18 @@ pub enum Task {
         script: Script,
         steps: u64,
     },
+    /// The image of a source is written.
+    Assemble {
+        image: Image,
+    },
+    /// An image is listed.
+    Disasm {
+        image: Image,
+    },
 }
 
 /// Does it: how the command ends.
-pub fn work(alloc: Global, task: Task) -> Result<Answer, AllocError>
+pub fn work(alloc: Global, task: Task) -> Result<Answer, Memory>
     ensures { IfOk result (λ a. Ends (task_of task) (ending_of a)) }
 {
     match task {
@@ -37,5 +48,7 @@ pub fn work(alloc: Global, task: Task) -> Result<Answer, AllocError>
             script,
             steps,
         } => follow(alloc, &plan, &script, steps),
+        Task::Assemble { image } => write(alloc, &image),
+        Task::Disasm { image } => list(alloc, &image),
     }
 }

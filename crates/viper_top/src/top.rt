@@ -4,9 +4,9 @@ ghost use Rattle.viper_io.specs.Causes.{Rose, Wrote};
 ghost use Rattle.viper_io.specs.Held.{sure_stock, sure_output};
 ghost use Rattle.viper_top.specs.Certificates.{Certificate};
 ghost use Rattle.viper_top.specs.Endings.{EndsAnswered};
-ghost use Rattle.viper_top.specs.Orders.{Order, Check, Run, order_in, target_of, target_in};
+ghost use Rattle.viper_top.specs.Orders.{Order, Check, Run, Assemble, Disasm, order_in, target_of, target_in};
 ghost use Rattle.viper_top.specs.Check.{checked};
-ghost use Rattle.viper_top.specs.Headlines.{Verified, Declined, AreGiven, EndsAs, Followed};
+ghost use Rattle.viper_top.specs.Headlines.{Verified, Declined, AreGiven, EndsAs, Followed, Assembled, Listed};
 ghost use Rattle.viper_top.specs.Promises.{OfOrder, Answered, FailedOutside, LeftFront, Keeps, IsQuiet, NothingFailed, NoFailures, Grew, Settled};
 ghost use Rattle.viper_top.specs.Stages.{order_view};
 
@@ -100,9 +100,10 @@ fn answer_words<S: Store, K: Sink>(
 }
 
 /// Does what the words of the command line say, which are those after the program's name: so far
-/// `check IMAGE PLAN CERT` and `run IMAGE PLAN SCRIPT STEPS`. Each content is fetched once, in the row's order; what the command
-/// makes is placed, and its text goes to the sink in one put (README.md, "Statuses and texts";
-/// docs/PROVED.md says the clauses in words).
+/// `check IMAGE PLAN CERT`, `run IMAGE PLAN SCRIPT STEPS`, `assemble SRC IMAGE` and `disasm IMAGE`.
+/// Each content is fetched once, in the row's order; what the command makes is placed, and its text
+/// goes to the sink in one put (README.md, "Statuses and texts"; docs/PROVED.md says the clauses in
+/// words).
 pub fn viper_main<S: Store, K: Sink>(
     alloc: Global,
     words: &[&str],
@@ -137,6 +138,16 @@ pub fn viper_main<S: Store, K: Sink>(
         → order_in words.now ≡ Some (Run image plan script steps)
         → (result ≡ Status.Done) ⊎ (result ≡ Status.Refused)
         → Followed image plan script steps (S.stock store.old) (S.stock store.new) result
+        (K.output out.old) (K.output out.new) }
+    // assemble, Done: the text of the source's image is placed, and its number of words put.
+    ensures assemble_done { (source image : List ℕ)
+        → order_in words.now ≡ Some (Assemble source image) → result ≡ Status.Done
+        → Assembled source image (S.stock store.old) (S.stock store.new)
+        (K.output out.old) (K.output out.new) }
+    // disasm, Done: the listing of the image was put, which assembles to that image.
+    ensures disasm_done { (image : List ℕ)
+        → order_in words.now ≡ Some (Disasm image) → result ≡ Status.Done
+        → Listed image (S.stock store.old) (S.stock store.new)
         (K.output out.old) (K.output out.new) }
     // Usage: the words are no command.
     ensures usage { result ≡ Status.Usage → (order_in words.now ≡ None)

@@ -1,5 +1,6 @@
-use Rattle.viper_top.specs.Orders.{Check, Run}
+use Rattle.viper_top.specs.Orders.{Check, Run, Assemble, Disasm}
 use Rattle.viper_top.proofs.RunHeadline.{worked, followed}
+use Rattle.viper_top.proofs.TextHeadlines.{made_image, listed_image}
 use Rattle.viper_top.proofs.Apart.{of_order, ends_by, usage_by, complete_by}
 use Rattle.viper_top.proofs.Headlines.{verified, declined, ends_as}
 use Rattle.viper_top.proofs.top.viper_main.Goals as goal
@@ -21,6 +22,14 @@ pub returns-clause-run_ends : goal.returns-clause-run_ends
 returns-clause-run_ends g c = λ image plan script steps order ends.
     let w = worked c.answer_words.result ends in
     followed image plan script steps _ _ c.answer_words.result _ _ w.1 (of_order _ (Run image plan script steps) _ order (c.answer_words.ensures.answered w.0))
+
+pub returns-clause-assemble_done : goal.returns-clause-assemble_done
+returns-clause-assemble_done g c = λ source image order done.
+    made_image source image _ _ _ _ (rw done at (of_order _ (Assemble source image) _ order (c.answer_words.ensures.answered (rw done tt))))
+
+pub returns-clause-disasm_done : goal.returns-clause-disasm_done
+returns-clause-disasm_done g c = λ image order done.
+    listed_image image _ _ _ _ (rw done at (of_order _ (Disasm image) _ order (c.answer_words.ensures.answered (rw done tt))))
 
 pub returns-clause-usage_where : goal.returns-clause-usage_where
 returns-clause-usage_where g c = usage_by _ c.answer_words.result _ _ _ _ c.answer_words.ensures.answered c.answer_words.ensures.outside

@@ -1,0 +1,4 @@
+pub mod Named
+pub mod Tokens
+pub mod Judged
+pub mod Assembled

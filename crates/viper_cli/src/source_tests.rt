@@ -1,0 +1,105 @@
+//! `assemble` and `disasm` over a shelf and a page: worked cases, whose answers are known from outside.
+
+use std::test::Fail;
+use viper_io::{Page, Shelf};
+use viper_top::{Status, viper_main};
+
+/// A source, and how its assembly is answered: the text, and what then stands under `image`.
+#[derive(Clone, Copy)]
+struct Case {
+    source: &'static str,
+    status: Status,
+    text: &'static str,
+    placed: &'static str,
+}
+
+macro_rules! cases {
+    ($($source:literal => $status:ident $text:literal $placed:literal,)*) => {
+        [$(Case { source: $source, status: Status::$status, text: $text, placed: $placed },)*]
+    };
+}
+
+#[test]
+fn assemble_places_the_image_of_a_source(rt: HostRuntime) -> Result<(), Fail> {
+    // source => status text placed; what stood there before is `old`.
+    let cases: [Case; 14] = cases! {
+        "00000 READ A LIT A 0000A\nlabel loop\n+ SUBS A LIT A 00001\n+ EQ A LIT A 00000\n+ READ A LIT PNB loop\n+ READ A LIT P 00000\n" => Done "words 5\n" "00000 0030000A\n00001 00700001\n00002 01200000\n00003 0A300001\n00004 06300000\n",
+        "00000 READ A LIT A 0000A\nlabel loop\n+ SUBS A LIT A 00001\n+ EQ A LIT A 00000\n+ READ A LIT PNB lop\n+ READ A LIT P 00000\n" => Input "source line 5 Label\n" "old",
+        "00000 READ A LIT A 0000A\n00000 WORD 00000000\n" => Input "source line 2 Twice\n" "old",
+        "00000 READ A LIT A 0000G" => Input "source line 1 Number\n" "old",
+        "FFFFF WORD 00000000\n+ WORD 00000000\n" => Input "source line 2 Range\n" "old",
+        "" => Done "words 0\n" "",
+        "label end\n+ READ A LIT P end\n" => Done "words 1\n" "00000 06300000\n",
+        "+ READ A LIT P end\nlabel end\n# over\n\n+ WORD 0000000A" => Done "words 2\n" "00000 06300001\n00001 0000000A\n",
+        "label WORD 00000000" => Input "source line 1 Number\n" "old",
+        "00000 READ A LIT B 0000g" => Input "source line 1 Name\n" "old",
+        "00000 WORD 0000000g\n00000 READ B LIT A 00000" => Input "source line 1 Number\n" "old",
+        "label a2345678901234567890123456789012\n+ WORD 00000000" => Done "words 1\n" "00000 00000000\n",
+        "label a23456789012345678901234567890123\n+ WORD 00000000" => Input "source line 1 Name\n" "old",
+        "label a\nlabel a" => Input "source line 2 Twice\n" "old",
+    };
+    for case in &cases {
+        let mut shelf = Shelf::new(rt.alloc());
+        shelf.hold("source", case.source.as_bytes())?;
+        shelf.hold("image", b"old")?;
+        let mut page = Page::new(rt.alloc());
+        let status = viper_main(
+            rt.alloc(),
+            &["assemble", "source", "image"],
+            &mut shelf,
+            &mut page,
+        );
+        assert_eq!(rt; status, case.status);
+        assert_eq!(rt; page.bytes(), case.text.as_bytes());
+        assert_eq!(rt; shelf.content("image"), Some(case.placed.as_bytes()));
+    }
+    Ok(())
+}
+
+/// Which call fails, and how the assembly is answered: what is put, and what then stands under `image`.
+#[test]
+fn an_assembly_whose_place_or_put_fails_is_outside(rt: HostRuntime) -> Result<(), Fail> {
+    // the source's fetch, the place, the put => placed put
+    let mut shelf = Shelf::new(rt.alloc());
+    shelf.hold("source", b"00000 WORD 0000000A\n")?;
+    shelf.hold("image", b"old")?;
+    shelf.fail_at(1)?;
+    let mut page = Page::new(rt.alloc());
+    let words = ["assemble", "source", "image"];
+    let status = viper_main(rt.alloc(), &words, &mut shelf, &mut page);
+    assert_eq!(rt; status, Status::Outside);
+    assert_eq!(rt; page.bytes(), b"".as_slice());
+    let mut shelf = Shelf::new(rt.alloc());
+    shelf.hold("source", b"00000 WORD 0000000A\n")?;
+    let mut page = Page::new(rt.alloc());
+    page.fail_at(0, 3)?;
+    let status = viper_main(rt.alloc(), &words, &mut shelf, &mut page);
+    assert_eq!(rt; status, Status::Outside);
+    assert_eq!(rt; page.bytes(), b"wor".as_slice());
+    assert_eq!(rt; shelf.content("image"), Some(b"00000 0000000A\n".as_slice()));
+    Ok(())
+}
+
+#[test]
+fn disasm_lists_an_image(rt: HostRuntime) -> Result<(), Fail> {
+    // image => status text
+    let cases: [(&str, Status, &str); 4] = [
+        (
+            "00000 00D00000\n00001 01D00000\n00002 FFFFFFFF\n",
+            Status::Done,
+            "00000 F13 A LIT A 00000\n00001 GTOR A LIT A 00000\n00002 UGEOR P IDY STO FFFFF\n",
+        ),
+        ("", Status::Done, ""),
+        ("00000 06300000\n00000 06300000\n", Status::Input, "image line 2 Order\n"),
+        ("00000 0630000\n", Status::Input, "image line 1 Form\n"),
+    ];
+    for (image, ends, text) in &cases {
+        let mut shelf = Shelf::new(rt.alloc());
+        shelf.hold("image", image.as_bytes())?;
+        let mut page = Page::new(rt.alloc());
+        let status = viper_main(rt.alloc(), &["disasm", "image"], &mut shelf, &mut page);
+        assert_eq!(rt; status, *ends);
+        assert_eq!(rt; page.bytes(), text.as_bytes());
+    }
+    Ok(())
+}
