@@ -24,7 +24,7 @@ line_there : (at word : ℕ) (rest : List ℕ) → word < 2 ^ 32 → lines_of (s
 unfolding parts_of
 line_there at word rest small =
     lines_of_cut (source_line at word ++ 10 ∷ rest) (source_line at word) rest
-      (slice_split_at (λ (b : ℕ). eqb b 10) (source_line at word) 10 rest (line_without at word small) refl)
+    (slice_split_at (λ (b : ℕ). eqb b 10) (source_line at word) 10 rest (line_without at word small) refl)
 
 lines_there : (n : ℕ) (image : ImageWords) → Fit image → numbered true n (lines_of (listing image)) ≡ listed n image
 lines_there n [] fit = ap (numbered true n) lines_of_nothing
@@ -82,12 +82,12 @@ moved done e rest up = subst Ascend (sym (append_assoc done (e ∷ []) rest)) up
 lines_say : (before : List SourceLine) (n : ℕ) (done rest : ImageWords) → (made add_line nothing_yet before).words ≡ done → Ascend (done ++ rest) → Fit rest
     → Say source_grammar before (listed n rest) (said rest)
 lines_say before n done [] e up fit = tt
-lines_say before n done (w ∷ ws) e up fit =
-    ( line_says (made add_line nothing_yet before) w.0 w.1 fit.0 fit.1 (ap (λ (words : ImageWords). word_at words w.0) e ∙ free_there done w.0 (all_below done w ws up))
-    , lines_say (before ++ Is w.0 w.1 ∷ []) (n + 1) (done ++ w ∷ []) ws
-        (ap (λ (s : SoFar). s.words) (made_push add_line nothing_yet before (Is w.0 w.1)) ∙ ap (λ (words : ImageWords). put_word words w.0 w.1) e ∙ put_behind done w ws up)
-        (moved done w ws up) fit.2
-    )
+lines_say before n done (w ∷ ws) e up fit = (
+  line_says (made add_line nothing_yet before) w.0 w.1 fit.0 fit.1 (ap (λ (words : ImageWords). word_at words w.0) e ∙ free_there done w.0 (all_below done w ws up)),
+  lines_say (before ++ Is w.0 w.1 ∷ []) (n + 1) (done ++ w ∷ []) ws
+      (ap (λ (s : SoFar). s.words) (made_push add_line nothing_yet before (Is w.0 w.1)) ∙ ap (λ (words : ImageWords). put_word words w.0 w.1) e ∙ put_behind done w ws up)
+      (moved done w ws up) fit.2,
+)
 
 -- and has no label that could be unknown
 labels_say : (first before : List SourceLine) (n : ℕ) (words : ImageWords) → Say source_grammar before (listed n words) (said words) → Say (label_grammar first) before (listed n words) (said words)

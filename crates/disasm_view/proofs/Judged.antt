@@ -37,8 +37,8 @@ line_tokens : (at : ℕ) (i : Fields) → AreFields i
     → tokens_of (fields_line at i) ≡ address_digits at ∷ operation_name i ∷ name_of register_names i.r ∷ name_of mode_names i.m ∷ name_of destination_names i.d ∷ address_digits i.field ∷ []
 line_tokens at i are =
     six_tokens (address_digits at) (operation_name i) (name_of register_names i.r) (name_of mode_names i.m) (name_of destination_names i.d) (address_digits i.field)
-      (digits_apart 32 (omega arith) 5 at) (operation_is_named i are).token (register_is_named i.r are.r).token (mode_is_named i.m are.m).token (destination_is_named i.d are.d).token
-      (digits_apart 32 (omega arith) 5 i.field)
+    (digits_apart 32 (omega arith) 5 at) (operation_is_named i are).token (register_is_named i.r are.r).token (mode_is_named i.m are.m).token (destination_is_named i.d are.d).token
+    (digits_apart 32 (omega arith) 5 i.field)
 
 -- it is one line
 pub line_without : (at word : ℕ) → word < 2 ^ 32 → Without 10 (source_line at word)
@@ -47,14 +47,14 @@ line_without at word small =
     let i = fields_of word in
     let are = (fields_there word small).ranges in
     without_two 10 (address_digits at) (operation_name i ++ (spaced (name_of register_names i.r) ++ (spaced (name_of mode_names i.m) ++ (spaced (name_of destination_names i.d) ++ spaced (address_digits i.field)))))
-      (digits_apart 10 (omega arith) 5 at)
-      (without_two 10 (operation_name i) (name_of register_names i.r ++ (spaced (name_of mode_names i.m) ++ (spaced (name_of destination_names i.d) ++ spaced (address_digits i.field))))
-        (operation_is_named i are).line
-        (without_two 10 (name_of register_names i.r) (name_of mode_names i.m ++ (spaced (name_of destination_names i.d) ++ spaced (address_digits i.field)))
-          (register_is_named i.r are.r).line
-          (without_two 10 (name_of mode_names i.m) (name_of destination_names i.d ++ spaced (address_digits i.field))
-            (mode_is_named i.m are.m).line
-            (without_two 10 (name_of destination_names i.d) (address_digits i.field) (destination_is_named i.d are.d).line (digits_apart 10 (omega arith) 5 i.field) refl) refl) refl) refl) refl
+    (digits_apart 10 (omega arith) 5 at)
+    (without_two 10 (operation_name i) (name_of register_names i.r ++ (spaced (name_of mode_names i.m) ++ (spaced (name_of destination_names i.d) ++ spaced (address_digits i.field))))
+    (operation_is_named i are).line
+    (without_two 10 (name_of register_names i.r) (name_of mode_names i.m ++ (spaced (name_of destination_names i.d) ++ spaced (address_digits i.field)))
+    (register_is_named i.r are.r).line
+    (without_two 10 (name_of mode_names i.m) (name_of destination_names i.d ++ spaced (address_digits i.field))
+    (mode_is_named i.m are.m).line
+    (without_two 10 (name_of destination_names i.d) (address_digits i.field) (destination_is_named i.d are.d).line (digits_apart 10 (omega arith) 5 i.field) refl) refl) refl) refl) refl
 
 -- that is neither empty nor a comment
 no_comment : (d : ℕ) → d < 16 → eqb (digit d) 35 ≡ false
@@ -72,6 +72,16 @@ line_says s at word low small free =
     let i = fields_of word in
     let is = fields_there word small in
     let are = is.ranges in
-    rw (line_tokens at i are, digits_are_no_plus at, digits_are_read 5 at low, free, (operation_is_named i are).is_read, (register_is_named i.r are.r).is_read,
-      (mode_is_named i.m are.m).is_read, (destination_is_named i.d are.d).is_read, digits_are_no_label i.field, digits_are_read 5 i.field are.field)
-      (ap (λ (w : ℕ). Ok (Is at w)) (sym is.makes))
+    rw (
+      line_tokens at i are,
+      digits_are_no_plus at,
+      digits_are_read 5 at low,
+      free,
+      (operation_is_named i are).is_read,
+      (register_is_named i.r are.r).is_read,
+      (mode_is_named i.m are.m).is_read,
+      (destination_is_named i.d are.d).is_read,
+      digits_are_no_label i.field,
+      digits_are_read 5 i.field are.field,
+    )
+    (ap (λ (w : ℕ). Ok (Is at w)) (sym is.makes))

@@ -107,8 +107,8 @@ pub record IsOperationName (i : Fields) : Type 0 where
 
 pub operation_is_named : (i : Fields) → AreFields i → IsOperationName i
 operation_is_named i are = record {
-  token = elim i.c as (λ c. Without 32 (cond c (name_of comparison_names i.f) (name_of function_names i.f))) [ | true ↦ comparison.token | false ↦ function.token ];
-  line = elim i.c as (λ c. Without 10 (cond c (name_of comparison_names i.f) (name_of function_names i.f))) [ | true ↦ comparison.line | false ↦ function.line ];
+  token = elim i.c as (λ c. Without 32 (cond c (name_of comparison_names i.f) (name_of function_names i.f))) [ true ↦ comparison.token | false ↦ function.token ];
+  line = elim i.c as (λ c. Without 10 (cond c (name_of comparison_names i.f) (name_of function_names i.f))) [ true ↦ comparison.line | false ↦ function.line ];
   is_read = elim i.c as (λ c. operation_of (cond c (name_of comparison_names i.f) (name_of function_names i.f)) ≡ Some (c, i.f)) [
     | true ↦ rw (comparison_is_no_function i.f are.f, comparison.is_read) refl
     | false ↦ rw function.is_read refl

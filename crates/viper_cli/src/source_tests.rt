@@ -76,7 +76,10 @@ fn an_assembly_whose_place_or_put_fails_is_outside(rt: HostRuntime) -> Result<()
     let status = viper_main(rt.alloc(), &words, &mut shelf, &mut page);
     assert_eq!(rt; status, Status::Outside);
     assert_eq!(rt; page.bytes(), b"wor".as_slice());
-    assert_eq!(rt; shelf.content("image"), Some(b"00000 0000000A\n".as_slice()));
+    assert_eq!(rt;
+        shelf.content("image"),
+        Some(b"00000 0000000A\n".as_slice())
+    );
     Ok(())
 }
 
@@ -90,7 +93,11 @@ fn disasm_lists_an_image(rt: HostRuntime) -> Result<(), Fail> {
             "00000 F13 A LIT A 00000\n00001 GTOR A LIT A 00000\n00002 UGEOR P IDY STO FFFFF\n",
         ),
         ("", Status::Done, ""),
-        ("00000 06300000\n00000 06300000\n", Status::Input, "image line 2 Order\n"),
+        (
+            "00000 06300000\n00000 06300000\n",
+            Status::Input,
+            "image line 2 Order\n",
+        ),
         ("00000 0630000\n", Status::Input, "image line 1 Form\n"),
     ];
     for (image, ends, text) in &cases {

@@ -27,9 +27,14 @@ pub enum Command<'a> {
         steps: u64,
     },
     /// `assemble SRC IMAGE`
-    Assemble { source: &'a str, image: &'a str },
+    Assemble {
+        source: &'a str,
+        image: &'a str,
+    },
     /// `disasm IMAGE`
-    Disasm { image: &'a str },
+    Disasm {
+        image: &'a str,
+    },
 }
 
 /// Is the word a name: not empty, and no option?

@@ -16,12 +16,7 @@ use viper_word::{Addr, Memory, Word};
 
 /// Appends the line of an output.
 #[tactic(auto, unfolding(crate::specs::Run::output_line))]
-fn push_output(
-    text: &mut LineText,
-    step: u64,
-    at: Addr,
-    word: Word,
-) -> Result<(), Memory>
+fn push_output(text: &mut LineText, step: u64, at: Addr, word: Word) -> Result<(), Memory>
     ensures { OnOk result (text.new ≡ text.old ++ output_line (step, at, word)) }
 {
     text.plain("out ")?;
@@ -64,6 +59,14 @@ fn cause_text(cause: Cause) -> &'static str
     }
 }
 
+/// Appends a register's name and its word.
+fn push_word(text: &mut LineText, name: &str, word: Word) -> Result<(), Memory>
+    ensures { OnOk result (text.new ≡ text.old ++ (name.now ++ word_digits word.0)) }
+{
+    text.plain(name)?;
+    text.word(word)
+}
+
 /// Appends P, A, X, Y and B.
 #[tactic(auto, unfolding(crate::specs::Run::registers_text))]
 fn push_registers(text: &mut LineText, machine: &Machine) -> Result<(), Memory>
@@ -71,12 +74,9 @@ fn push_registers(text: &mut LineText, machine: &Machine) -> Result<(), Memory>
 {
     text.plain(" P ")?;
     text.address(machine.p())?;
-    text.plain(" A ")?;
-    text.word(machine.a())?;
-    text.plain(" X ")?;
-    text.word(machine.x())?;
-    text.plain(" Y ")?;
-    text.word(machine.y())?;
+    push_word(text, " A ", machine.a())?;
+    push_word(text, " X ", machine.x())?;
+    push_word(text, " Y ", machine.y())?;
     text.plain(" B ")?;
     text.plain(bit_text(machine.b()))
 }
@@ -90,11 +90,7 @@ fn push_step(text: &mut LineText, front: &str, step: u64) -> Result<(), Memory>
 }
 
 /// Appends the registers after a run of so many steps.
-fn push_ran(
-    text: &mut LineText,
-    steps: u64,
-    machine: &Machine,
-) -> Result<(), Memory>
+fn push_ran(text: &mut LineText, steps: u64, machine: &Machine) -> Result<(), Memory>
     ensures { OnOk result (text.new
         ≡ text.old ++ (codes "ran " ++ decimal steps ++ registers_text machine.now.state)) }
 {
@@ -113,12 +109,7 @@ fn push_stopped(text: &mut LineText, step: u64, cause: Cause) -> Result<(), Memo
 }
 
 /// Appends a step and the address that it reads, behind the front of a line.
-fn push_reading(
-    text: &mut LineText,
-    front: &str,
-    step: u64,
-    at: Addr,
-) -> Result<(), Memory>
+fn push_reading(text: &mut LineText, front: &str, step: u64, at: Addr) -> Result<(), Memory>
     ensures { OnOk result (text.new
         ≡ text.old ++ (front.now ++ decimal step ++ codes " " ++ address_digits at)) }
 {
@@ -146,12 +137,7 @@ fn push_answer(
 
 /// Appends the ending, without the line's end.
 #[tactic(auto, unfolding(crate::specs::Run::end_words))]
-fn push_end(
-    text: &mut LineText,
-    steps: u64,
-    machine: &Machine,
-    end: &RunEnd,
-) -> Result<(), Memory>
+fn push_end(text: &mut LineText, steps: u64, machine: &Machine, end: &RunEnd) -> Result<(), Memory>
     ensures { OnOk result (text.new
         ≡ text.old ++ end_words steps machine.now.state end.now) }
 {
@@ -159,9 +145,7 @@ fn push_end(
         RunEnd::Ran => push_ran(text, steps, machine),
         RunEnd::Stopped(step, cause) => push_stopped(text, step, cause),
         RunEnd::ScriptEnded(step, at) => push_reading(text, "script ended ", step, at),
-        RunEnd::OutOfRange(step, at, word) => {
-            push_answer(text, "out of range ", step, at, word)
-        }
+        RunEnd::OutOfRange(step, at, word) => { push_answer(text, "out of range ", step, at, word) }
     }
 }
 

@@ -76,7 +76,10 @@ pub enum Stage<'a> {
         cert: &'a str,
     },
     /// A whole image.
-    WholeImage { image: &'a str, then: OverImage<'a> },
+    WholeImage {
+        image: &'a str,
+        then: OverImage<'a>,
+    },
     /// A whole plan over its image, and then a script.
     WholePlan {
         image: Image,
@@ -91,7 +94,9 @@ pub enum Stage<'a> {
         steps: u64,
     },
     /// A source, of which the image is written.
-    Source { source: &'a str },
+    Source {
+        source: &'a str,
+    },
 }
 
 /// How a command goes on.
@@ -269,12 +274,7 @@ fn take_whole_plan<'a>(
 }
 
 /// A script was handed out.
-fn take_script<'a>(
-    alloc: Global,
-    bytes: &[u8],
-    plan: Plan,
-    steps: u64,
-) -> Result<Next<'a>, Memory>
+fn take_script<'a>(alloc: Global, bytes: &[u8], plan: Plan, steps: u64) -> Result<Next<'a>, Memory>
     requires { length bytes.now ≤ SCRIPT_LIMIT }
     ensures took { IfOk result (Took (script_kind plan)
         (λ s. Does (Runs plan s steps)) bytes.now) }

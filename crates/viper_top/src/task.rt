@@ -3,8 +3,8 @@ ghost use Rattle.viper_top.specs.Commands.{Ends};
 ghost use Rattle.viper_top.specs.Stages.{task_of, ending_of};
 
 use crate::answer::Answer;
-use crate::cert_format::Cert;
 use crate::assemble::write;
+use crate::cert_format::Cert;
 use crate::check::judge;
 use crate::disasm::list;
 use crate::run::follow;

@@ -8,5 +8,5 @@ use Rattle.disasm_view.proofs.lines.listing.Goals as goal
 pub returns-clause-source : goal.returns-clause-source
 returns-clause-source c =
     IfOk-weaker c.lines_of.result _ _
-      (λ t text. subst (λ (bytes : List ℕ). IsSource bytes c.args.image.now) (sym (text ∙ ap listing c.words.ensures.words)) (listing_is_source c.args.image.now c.words.ensures.image))
-      c.lines_of.ensures
+    (λ t text. subst (λ (bytes : List ℕ). IsSource bytes c.args.image.now) (sym (text ∙ ap listing c.words.ensures.words)) (listing_is_source c.args.image.now c.words.ensures.image))
+    c.lines_of.ensures
