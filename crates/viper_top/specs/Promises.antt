@@ -85,9 +85,17 @@ pub record MayEnd (order : Order) (before now : Stock) (ending : Ending) : Type 
   pub is_given : Given before now given
   pub walks : Walks Ends (work_of order) given ending
 
+-- `usage`, and what may follow it
+abbrev pub IsUsage : List ℕ → Type 0
+IsUsage text = (more : List ℕ) × (text ≡ codes "usage\n" ++ more)
+
+-- such a text was put
+abbrev pub WroteUsage : Option (List ℕ) → Option (List ℕ) → Type 0
+WroteUsage before now = (text : List ℕ) × IsUsage text × Wrote before text now
+
 -- a text that the command may put: that of such an ending, and `usage` where the words are no command
 abbrev pub MayPut : Option Order → Stock → Stock → List ℕ → Type 0
-MayPut None before now text = text ≡ codes "usage\n"
+MayPut None before now text = IsUsage text
 MayPut (Some order) before now text = (ending : Ending) × MayEnd order before now ending × (text ≡ ending.text)
 
 -- the sink failed, and took the first bytes of such a text

@@ -38,7 +38,7 @@ pub enum Command<'a> {
 }
 
 /// Is the word a name: not empty, and no option?
-fn is_plain(word: &str) -> bool
+pub(crate) fn is_plain(word: &str) -> bool
     ensures { result ≡ is_plain word.now }
 {
     match word.as_bytes() {

@@ -29,6 +29,7 @@ mod status;
 mod task;
 mod texts;
 mod top;
+mod usage;
 
 pub use laws::{
     local_conditions_suffice, runs_are_carried, spellings_are_unique, yes_exactly_where_local,

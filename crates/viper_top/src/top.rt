@@ -7,7 +7,7 @@ ghost use Rattle.viper_top.specs.Endings.{EndsAnswered};
 ghost use Rattle.viper_top.specs.Orders.{Order, Check, Run, Assemble, Disasm, order_in, target_of, target_in};
 ghost use Rattle.viper_top.specs.Check.{checked};
 ghost use Rattle.viper_top.specs.Headlines.{Verified, Declined, AreGiven, EndsAs, Followed, Assembled, Listed};
-ghost use Rattle.viper_top.specs.Promises.{OfOrder, Answered, FailedOutside, LeftFront, Keeps, IsQuiet, NothingFailed, NoFailures, Grew, Settled};
+ghost use Rattle.viper_top.specs.Promises.{OfOrder, Answered, FailedOutside, LeftFront, Keeps, IsQuiet, NothingFailed, NoFailures, Grew, Settled, WroteUsage};
 ghost use Rattle.viper_top.specs.Stages.{order_view};
 
 use crate::answer::Stop;
@@ -15,8 +15,10 @@ use crate::command_line::{Command, command_of};
 use crate::ending::{place, put};
 use crate::reading::answer;
 use crate::status::Status;
+use crate::usage::usage_text;
 use std::alloc::Global;
 use viper_io::{Sink, Store, SurePage, SureShelf};
+use viper_word::Memory;
 
 /// Does a command: it reads its contents, does its work, places, and puts.
 #[tactic(auto, using(crate::proofs::Growth::grew_twice))]
@@ -72,7 +74,7 @@ fn answer_words<S: Store, K: Sink>(
         → OfOrder (order_in words.now) (λ o. Answered o (S.stock store.old) (S.stock store.new)
         result (K.output out.old) (K.output out.new)) }
     ensures usage { result ≡ Status.Usage → (order_in words.now ≡ None)
-        × Wrote (K.output out.old).text (codes "usage\n") (K.output out.new).text }
+        × WroteUsage (K.output out.old).text (K.output out.new).text }
     ensures outside { result ≡ Status.Outside
         → FailedOutside (order_in words.now) (S.stock store.old) (S.stock store.new)
         (K.output out.old) (K.output out.new) }
@@ -94,7 +96,10 @@ fn answer_words<S: Store, K: Sink>(
     ensures sink_grew { (K.output out.old).faults ≤ (K.output out.new).faults }
 {
     match command_of(words) {
-        None => put(out, Status::Usage, b"usage\n"),
+        None => match usage_text(alloc, words) {
+            Err(Memory) => Status::Memory,
+            Ok(text) => put(out, Status::Usage, &text),
+        },
         Some(command) => carry_out(alloc, &command, store, out),
     }
 }
@@ -151,7 +156,7 @@ pub fn viper_main<S: Store, K: Sink>(
         (K.output out.old) (K.output out.new) }
     // Usage: the words are no command.
     ensures usage { result ≡ Status.Usage → (order_in words.now ≡ None)
-        × Wrote (K.output out.old).text (codes "usage\n") (K.output out.new).text }
+        × WroteUsage (K.output out.old).text (K.output out.new).text }
     // And where they are none and the put doesn't fail, it is Usage or want of memory.
     ensures usage_where { order_in words.now ≡ None
         → (Rose (K.output out.old).faults (K.output out.new).faults → ⊥)
@@ -210,7 +215,7 @@ pub fn sure_main(alloc: Global, words: &[&str], store: &mut SureShelf, out: &mut
     ensures complete { (order : Order) → order_in words.now ≡ Some order → result ≢ Status.Memory
         → Settled order (sure_stock store.old) result (sure_output out.old) (sure_output out.new) }
     ensures usage { result ≡ Status.Usage → (order_in words.now ≡ None)
-        × Wrote (Some out.old) (codes "usage\n") (Some out.new) }
+        × WroteUsage (Some out.old) (Some out.new) }
     ensures usage_where { order_in words.now ≡ None
         → result ≢ Status.Memory → result ≡ Status.Usage }
     ensures memory { result ≡ Status.Memory → out.new ≡ out.old }
