@@ -186,3 +186,25 @@ fn run_names_the_first_fault(rt: HostRuntime) -> Result<(), Fail> {
     }
     Ok(())
 }
+
+#[test]
+fn a_script_over_its_limit_is_long(rt: HostRuntime) -> Result<(), Fail> {
+    // bytes => text
+    let cases: [(usize, &str); 2] = [
+        (16_000_000, "script line 2 Form\n"),
+        (16_000_001, "script long\n"),
+    ];
+    for (bytes, text) in &cases {
+        let mut shelf = Shelf::new(rt.alloc());
+        shelf.hold("image", IMAGE.as_bytes())?;
+        shelf.hold("plan", PLAN.as_bytes())?;
+        let script = vec![in rt.alloc(); b'#'; *bytes]?;
+        shelf.hold("script", &script)?;
+        let mut page = Page::new(rt.alloc());
+        let words = ["run", "image", "plan", "script", "1"];
+        let status = viper_main(rt.alloc(), &words, &mut shelf, &mut page);
+        assert_eq!(rt; status, Status::Input);
+        assert_eq!(rt; page.bytes(), text.as_bytes());
+    }
+    Ok(())
+}

@@ -110,3 +110,16 @@ fn disasm_lists_an_image(rt: HostRuntime) -> Result<(), Fail> {
     }
     Ok(())
 }
+
+#[test]
+fn a_source_over_its_limit_is_long(rt: HostRuntime) -> Result<(), Fail> {
+    let mut shelf = Shelf::new(rt.alloc());
+    let source = vec![in rt.alloc(); b'#'; 33_554_433]?;
+    shelf.hold("source", &source)?;
+    let mut page = Page::new(rt.alloc());
+    let words = ["assemble", "source", "image"];
+    let status = viper_main(rt.alloc(), &words, &mut shelf, &mut page);
+    assert_eq!(rt; status, Status::Input);
+    assert_eq!(rt; page.bytes(), b"source long\n".as_slice());
+    Ok(())
+}

@@ -331,22 +331,38 @@ fn a_content_of_another_form_is_unbuilt(rt: HostRuntime) -> Result<(), Fail> {
     )
 }
 
-/// Words that are no command.
-const USAGE: [&[&str]; 6] = [
-    &[],
-    &["help"],
-    &["check", "image", "plan"],
-    &["check", "image", "plan", "cert", "more"],
-    &["check", "-x", "plan", "cert"],
-    &["check", "image", "", "cert"],
+/// What is put where the words are no command: its first line, and the commands.
+const USAGE_ALONE: &str = "usage\n";
+
+const COMMANDS: &str = "usage
+Usage: viper <COMMAND>
+
+Commands:
+  check     IMAGE PLAN CERT: judges a certificate
+  run       IMAGE PLAN SCRIPT STEPS: runs a program over a script of answers
+  assemble  SRC IMAGE: writes the image of a source
+  disasm    IMAGE: lists an image as a source
+";
+
+/// Words that are no command, and what is put.
+const USAGE: [(&[&str], &str); 9] = [
+    (&[], COMMANDS),
+    (&["help"], COMMANDS),
+    (&["sample", "0"], COMMANDS),
+    (&["check", "a", "b"], COMMANDS),
+    (&["check", "image", "plan", "cert", "more"], COMMANDS),
+    (&["assemble", "image"], COMMANDS),
+    (&["check", "-x", "plan", "cert"], USAGE_ALONE),
+    (&["check", "image", "", "cert"], USAGE_ALONE),
+    (&["run", "image", "plan", "script", "0"], USAGE_ALONE),
 ];
 
 #[test]
 fn other_words_are_usage(rt: HostRuntime) -> Result<(), Fail> {
-    for words in USAGE {
+    for (words, text) in USAGE {
         let mut shelf = shelf_of(rt.alloc(), LOOP, LOOP_PLAN, &ONE_NODE)?;
         shelf.fail_at(0)?;
-        answers(rt.alloc(), &mut shelf, words, Status::Usage, "usage\n")?;
+        answers(rt.alloc(), &mut shelf, words, Status::Usage, text)?;
     }
     Ok(())
 }
