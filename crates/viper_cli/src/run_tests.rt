@@ -25,9 +25,9 @@ macro_rules! cases {
 fn run_does_what_the_machine_does(rt: HostRuntime) -> Result<(), Fail> {
     // A is read from 00020, and back: no answer left, one out of range, all performed; comments and
     // empty lines. An undeclared address uses its answer up. An overflow in the first step. An
-    // output. A right shift in each profile. Data that the image
-    // doesn't give begins at the least number of its range.
-    let cases: [Case; 11] = cases! {
+    // output. A right shift in each profile. Data that the image doesn't give begins at the least number
+    // of its range. Each shift, an addition with its carry, a jump that is skipped, and the end of memory.
+    let cases: [Case; 18] = cases! {
         "00000 10200020\n00001 06300000\n" "code 00000 00001\ninput 00020 00020 0..255\nmarker 00000\nstart 00000 any any any any\n" "state 00000 00000000 00000000 00000000 0\n00000005\n" "4" => Refused "script ended 2 00020\n",
         "00000 10200020\n00001 06300000\n" "code 00000 00001\ninput 00020 00020 0..255\nmarker 00000\nstart 00000 any any any any\n" "state 00000 00000000 00000000 00000000 0\n00000005\n00000100" "4" => Refused "out of range 2 00020 00000100\n",
         "00000 10200020\n00001 06300000\n" "code 00000 00001\ninput 00020 00020 0..255\nmarker 00000\nstart 00000 any any any any\n" "# a\n\nstate 00000 00000000 00000000 00000000 0\n00000005\n#\n00000007\n" "4" => Done "ran 4 P 00000 A 00000007 X 00000000 Y 00000000 B 0\n",
@@ -39,6 +39,13 @@ fn run_does_what_the_machine_does(rt: HostRuntime) -> Result<(), Fail> {
         "00000 10300100\n00001 06300000\n" "code 00000 00001\ndata 00100 00101 -3..9/3\nmarker 00000\nstart 00000 any any any any\n" "state 00000 00000000 00000000 00000000 0\n" "1" => Done "ran 1 P 00001 A FFFFFFFD X 00000000 Y 00000000 B 0\n",
         "00000 10300100\n00001 06300000\n00100 00000006\n" "code 00000 00001\ndata 00100 00101 -3..9/3\nmarker 00000\nstart 00000 any any any any\n" "state 00000 00000000 00000000 00000000 0\n" "1" => Done "ran 1 P 00001 A 00000006 X 00000000 Y 00000000 B 0\n",
         "00000 1C000021\n00001 06300000\n" "code 00000 00001\nmarker 00000\nstart 00000 any any any any\n" "state 00000 00000009 00000000 00000000 0\n" "3" => Done "out 0 00021 00000009\nout 2 00021 00000009\nran 3 P 00001 A 00000009 X 00000000 Y 00000000 B 0\n",
+        "00000 00C00000\n" "code 00000 00000\nmarker 00000\nstart 00000 any any any any\n" "state 00000 80000001 00000000 00000000 1\n" "1" => Done "ran 1 P 00001 A C0000000 X 00000000 Y 00000000 B 1\n",
+        "00000 10C00000\n" "code 00000 00000\nmarker 00000\nstart 00000 any any any any\n" "state 00000 80000001 00000000 00000000 1\n" "1" => Done "ran 1 P 00001 A C0000000 X 00000000 Y 00000000 B 1\n",
+        "00000 20C00000\n" "code 00000 00000\nmarker 00000\nstart 00000 any any any any\n" "state 00000 40000000 00000000 00000000 0\n" "1" => Refused "stopped 0 overflow\n",
+        "00000 30C00000\n" "code 00000 00000\nmarker 00000\nstart 00000 any any any any\n" "state 00000 80000001 00000000 00000000 1\n" "1" => Done "ran 1 P 00001 A 00000003 X 00000000 Y 00000000 B 1\n",
+        "00000 00400001\n" "code 00000 00000\nmarker 00000\nstart 00000 any any any any\n" "state 00000 FFFFFFFF 00000000 00000000 0\n" "1" => Done "ran 1 P 00001 A 00000000 X 00000000 Y 00000000 B 1\n",
+        "00000 28300000\n" "code 00000 00000\nmarker 00000\nstart 00000 any any any any\n" "state 00000 00000000 FFFFFFFF 00000000 0\n" "1" => Done "ran 1 P 00001 A 00000000 X FFFFFFFF Y 00000000 B 0\n",
+        "FFFFF 06300000\n" "code FFFFF FFFFF\nmarker FFFFF\nstart FFFFF any any any any\n" "state FFFFF 00000000 00000000 00000000 0\n" "1" => Refused "stopped 0 end\n",
     };
     for case in &cases {
         let mut shelf = Shelf::new(rt.alloc());
