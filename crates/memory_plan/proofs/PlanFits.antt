@@ -1,10 +1,11 @@
 -- What a line of right numbers declares fits: addresses are below 2^20, ranges normal, numbers in bounds.
-use Rattle.std.proofs.Common.{◌≡◌, ◌∙◌, ℕ, ◌+◌, ◌*◌, ◌^◌, ◌<◌, ◌≤◌, Bool, true, false, cond, eqb, List, [], ◌∷◌, length, Option, Some, None, refl, subst, arith}
-use Rattle.std.specs.Prelude.{codes, ℤ, pos, ◌≤ℤ◌, ◌&&◌, int_le, unsigned_abs}
+use Rattle.std.proofs.Common.{sym, lit<, ◌≡◌, ℕ, ◌+◌, ◌*◌, ◌^◌, ◌<◌, ◌≤◌, Bool, true, false, cond, eqb, List, [], ◌∷◌, length, Option, Some, None, refl, subst, arith}
+use Rattle.std.specs.Prelude.{codes, ℤ, pos, ◌&&◌, int_le, unsigned_abs}
 use Rattle.std.specs.Ordering.{int_eq}
 use Rattle.std.proofs.lemmas.Int.{ints}
 use Rattle.std.proofs.lemmas.Option.{none-some, same_Some}
 use Rattle.std.proofs.lemmas.Bool.Decides.{nat_tests}
+use native.Mathlib.Numerals.{unary_clauses}
 use Rattle.hex.specs.Hex.{hex_digit_value}
 use Rattle.viper_word.proofs.Booleans.{guard_some, cond_some}
 use Rattle.viper_word.proofs.Integers.{le_true, is_signed_true}
@@ -31,35 +32,33 @@ pub bound : {A B : Type 0} (m : Option A) (f : A → Option B) (b : B) → (m >>
 bound None f b e = absurd (none-some b e)
 bound (Some a) f b e = (a, refl, e)
 
--- ---- addresses
+-- ---- numbers of digits
 
--- five digits
-five_small : (a b c d e n : ℕ) → hex_behind 0 (a ∷ b ∷ c ∷ d ∷ e ∷ []) ≡ Some n → n < 2 ^ 20
-five_small a b c d e n h =
-    let p = bound (hex_digit_value a) _ n h in
-    let q = bound (hex_digit_value b) _ n p.2 in
-    let r = bound (hex_digit_value c) _ n q.2 in
-    let s = bound (hex_digit_value d) _ n r.2 in
-    let t = bound (hex_digit_value e) _ n s.2 in
-    let whole : (((((0 * 16 + p.0) * 16 + q.0) * 16 + r.0) * 16 + s.0) * 16 + t.0) ≡ n = same_Some _ n t.2 in
-    let p0 = p.0 in let q0 = q.0 in let r0 = r.0 in let s0 = s.0 in let t0 = t.0 in
-    omega (arith, whole, digit_bound a p0 p.1, digit_bound b q0 q.1, digit_bound c r0 r.1, digit_bound d s0 s.1, digit_bound e t0 t.1)
+hex_bound : (text : List ℕ) (n m k : ℕ) → n < 16 ^ k → hex_behind n text ≡ Some m → m < 16 ^ (k + length text)
+hex_bound [] n m k small h =
+    let same : n ≡ m = same_Some n m h in
+    let none : k + 0 ≡ k = omega arith in
+    subst (λ (j : ℕ). m < 16 ^ j) (sym none) (subst (λ (j : ℕ). j < 16 ^ k) same small)
+hex_bound (c ∷ cs) n m k small h =
+    let digit = bound (hex_digit_value c) _ m h in
+    let v = digit.0 in
+    let low = digit_bound c v digit.1 in
+    let power : 16 ^ (k + 1) ≡ 16 ^ k * 16 = simp unary_clauses in
+    let next : n * 16 + v < 16 ^ (k + 1) = rw power (omega (arith, small, low)) in
+    let more : k + 1 + length cs ≡ k + length (c ∷ cs) = omega arith in
+    subst (λ (j : ℕ). m < 16 ^ j) more (hex_bound cs (n * 16 + v) m (k + 1) next digit.2)
 
-small_by : (text : List ℕ) (n : ℕ) → length text ≡ 5 → hex_behind 0 text ≡ Some n → n < 2 ^ 20
-small_by [] n l h = absurd (omega (arith, l))
-small_by (a ∷ []) n l h = absurd (omega (arith, l))
-small_by (a ∷ b ∷ []) n l h = absurd (omega (arith, l))
-small_by (a ∷ b ∷ c ∷ []) n l h = absurd (omega (arith, l))
-small_by (a ∷ b ∷ c ∷ d ∷ []) n l h = absurd (omega (arith, l))
-small_by (a ∷ b ∷ c ∷ d ∷ e ∷ []) n l h = five_small a b c d e n h
-small_by (a ∷ b ∷ c ∷ d ∷ e ∷ f ∷ more) n l h = absurd (omega (arith, l))
+-- so many digits
+pub hex_small : (count : ℕ) (text : List ℕ) (n : ℕ) → hex_number count text ≡ Some n → n < 16 ^ count
+unfolding hex_number
+hex_small count text n h =
+    let there = cond_some (eqb (length text) count) (hex_behind 0 text) n h in
+    let same : length text ≡ count = let e = there.0 in grind (arith, nat_tests) in
+    let all : 0 + length text ≡ count = omega (arith, same) in
+    subst (λ (j : ℕ). n < 16 ^ j) all (hex_bound text 0 n 0 (lit< tt) there.1)
 
 pub address_small : (text : List ℕ) (n : ℕ) → hex_number 5 text ≡ Some n → n < 2 ^ 20
-unfolding hex_number
-address_small text n h =
-    let there = cond_some (eqb (length text) 5) (hex_behind 0 text) n h in
-    let five : length text ≡ 5 = let e = there.0 in grind (arith, nat_tests) in
-    small_by text n five there.1
+address_small text n h = hex_small 5 text n h
 
 -- ---- shapes
 

@@ -166,39 +166,28 @@ add_data s t h k low normal =
       costs = h.costs;
     }
 
-add_input : (s : SoFar) (t : Span) → IsWellFormed s.plan → Keeps s (lines.Region Input t.0 t.1 t.2) → t.1 < 2 ^ 20 → IsNormal t.2 → IsWellFormed (add s.plan (lines.Region Input t.0 t.1 t.2))
-add_input s t h k low normal =
-    let span = neither (ltb t.1 t.0) (meets s.plan.inputs t.0 t.1) k.span in
-    record {
-      image = h.image;
-      code = h.code;
-      «data» = h.«data»;
-      code_and_data = h.code_and_data;
-      fits = h.fits;
-      inputs = spans_push s.plan.inputs t h.inputs k.lines span.0 low normal span.1;
-      outputs = h.outputs;
-      markers = h.markers;
-      starts = h.starts;
-      thresholds = h.thresholds;
-      costs = h.costs;
-    }
+-- peripheral spans in the place of others
+with_spans : (plan : PlanLines) (inputs outputs : List Span) → IsWellFormed plan → AreSpans inputs → AreSpans outputs
+    → IsWellFormed (record plan { inputs = inputs; outputs = outputs })
+with_spans plan inputs outputs h ins outs = record {
+  image = h.image;
+  code = h.code;
+  «data» = h.«data»;
+  code_and_data = h.code_and_data;
+  fits = h.fits;
+  inputs = ins;
+  outputs = outs;
+  markers = h.markers;
+  starts = h.starts;
+  thresholds = h.thresholds;
+  costs = h.costs;
+}
 
-add_output : (s : SoFar) (t : Span) → IsWellFormed s.plan → Keeps s (lines.Region Output t.0 t.1 t.2) → t.1 < 2 ^ 20 → IsNormal t.2 → IsWellFormed (add s.plan (lines.Region Output t.0 t.1 t.2))
-add_output s t h k low normal =
-    let span = neither (ltb t.1 t.0) (meets s.plan.outputs t.0 t.1) k.span in
-    record {
-      image = h.image;
-      code = h.code;
-      «data» = h.«data»;
-      code_and_data = h.code_and_data;
-      fits = h.fits;
-      inputs = h.inputs;
-      outputs = spans_push s.plan.outputs t h.outputs k.lines span.0 low normal span.1;
-      markers = h.markers;
-      starts = h.starts;
-      thresholds = h.thresholds;
-      costs = h.costs;
-    }
+-- and one span more among them
+span_more : (spans : List Span) (t : Span) → AreSpans spans → nat_le 256 (length spans) ≡ false → (ltb t.1 t.0 || meets spans t.0 t.1) ≡ false → t.1 < 2 ^ 20 → IsNormal t.2 → AreSpans (spans ++ t ∷ [])
+span_more spans t h lines breaks low normal =
+    let span = neither (ltb t.1 t.0) (meets spans t.0 t.1) breaks in
+    spans_push spans t h lines span.0 low normal span.1
 
 add_marker : (s : SoFar) (at : ℕ) → IsWellFormed s.plan → Keeps s (lines.Marker at) → IsWellFormed (add s.plan (lines.Marker at))
 add_marker s at h k =
@@ -304,8 +293,10 @@ pub add_one : (s : SoFar) (l : PlanLine) → IsWellFormed s.plan → Keeps s l �
 add_one s (lines.Profile p) h k f = add_profile s.plan (add s.plan (lines.Profile p)) refl h
 add_one s (lines.Code lo hi) h k f = add_code s lo hi h k f
 add_one s (lines.Region Data lo hi r) h k f = add_data s (lo, hi, r) h k f.0 f.1
-add_one s (lines.Region Input lo hi r) h k f = add_input s (lo, hi, r) h k f.0 f.1
-add_one s (lines.Region Output lo hi r) h k f = add_output s (lo, hi, r) h k f.0 f.1
+add_one s (lines.Region Input lo hi r) h k f =
+    with_spans s.plan (s.plan.inputs ++ (lo, hi, r) ∷ []) s.plan.outputs h (span_more s.plan.inputs (lo, hi, r) h.inputs k.lines k.span f.0 f.1) h.outputs
+add_one s (lines.Region Output lo hi r) h k f =
+    with_spans s.plan s.plan.inputs (s.plan.outputs ++ (lo, hi, r) ∷ []) h h.inputs (span_more s.plan.outputs (lo, hi, r) h.outputs k.lines k.span f.0 f.1)
 add_one s (lines.Marker at) h k f = add_marker s at h k
 add_one s (lines.Start start) h k f = add_start s start h k f.0 f.1
 add_one s (lines.Threshold n) h k f = add_threshold s n h k f

@@ -1,9 +1,10 @@
 -- The written text of an image, and that it is read again.
-use Rattle.std.proofs.Common.{◌≡◌, ◌∙◌, ℕ, zero, suc, ◌+◌, ◌*◌, ◌/◌, ◌%◌, ◌^◌, ◌<◌, false, eqb, List, [], ◌∷◌, ◌++◌, Option, Some, None, map, refl, ap, arith, rules}
+use Rattle.std.proofs.Common.{◌≡◌, ◌∙◌, ℕ, zero, suc, ◌+◌, ◌*◌, ◌/◌, ◌%◌, ◌^◌, ◌<◌, ◌≤◌, false, eqb, List, [], ◌∷◌, ◌++◌, length, take, Option, Some, None, map, refl, ap, arith, rules}
 use Rattle.std.specs.List.{All}
 use Rattle.std.specs.Option.{option_and_then}
 use Rattle.std.proofs.lemmas.Bool.Decides.{nat_tests}
 use Rattle.std.proofs.lemmas.Grind.{common_steps}
+use Rattle.std.proofs.lemmas.List.{length-append, take_all}
 use Rattle.std.proofs.lemmas.List.Elements.{All-push, All-cons, All-append}
 use Rattle.std.proofs.lemmas.List.Splits.{slice_split_at, slice_split_none}
 use native.Mathlib.Numerals.{unary_clauses}
@@ -13,8 +14,10 @@ use Rattle.text_lines.specs.Lines.{lines_of}
 use Rattle.text_lines.specs.Parts.{parts_of, tokens_of}
 use Rattle.text_lines.proofs.Cuts.{lines_of_nothing, lines_of_cut}
 use Rattle.memory_plan.specs.Hex.{hex_behind, hex_number}
-use Rattle.memory_plan.specs.Images.{word_of_line, image_line, image_text, Ascend, Fit, IsImage}
+use Rattle.viper_word.specs.declared.word.Word.{Word}
+use Rattle.memory_plan.specs.Images.{entries, word_of_line, image_line, image_text, Ascend, Fit, IsImage}
 use Rattle.memory_plan.proofs.DigitLemmas.{digits_length}
+use Rattle.memory_plan.proofs.LineLemmas.{line_length}
 use Rattle.memory_plan.proofs.HexLemmas.{hex_number_there}
 
 -- ---- digits
@@ -89,6 +92,16 @@ words_read [] fit = ap (map word_of_line) lines_of_nothing
 words_read (e ∷ es) fit =
     ap (λ (text : List ℕ). map word_of_line (lines_of text)) (line_is e (image_text es)) ∙ ap (map word_of_line) (lines_there e (image_text es))
     ∙ ap (λ (o : Option (ℕ × ℕ)). o ∷ map word_of_line (lines_of (image_text es))) (line_read e fit.0 fit.1) ∙ ap (λ (os : List (Option (ℕ × ℕ))). Some e ∷ os) (words_read es fit.2)
+
+-- and a line more has fifteen bytes more
+pub text_size : (image : List (ℕ × ℕ)) → length (image_text image) ≡ 15 * length image
+text_size [] = refl
+text_size (e ∷ es) = omega (arith, length-append (image_line e) (image_text es), line_length e, text_size es)
+
+-- the lines of all words are the whole text
+pub all_written : (text : List ℕ) (words : List (ℕ × Word)) (i : ℕ) (image : List (ℕ × ℕ)) → text ≡ image_text (entries (take i words)) → length words ≤ i → entries words ≡ image → text ≡ image_text image
+all_written text words i image so_far past same =
+    so_far ∙ ap (λ (ws : List (ℕ × Word)). image_text (entries ws)) (take_all i words past) ∙ ap image_text same
 
 -- what is written is the text of the image
 pub written_is_image : (text : List ℕ) (words : List (ℕ × ℕ)) → text ≡ image_text words → Ascend words → Fit words → IsImage text words

@@ -23,7 +23,8 @@ decimal_behind n (c ∷ cs) = decimal_digit c >>= λ d. decimal_behind (n * 10 +
 
 -- one to ten digits
 unfoldable pub natural : List ℕ → Option ℕ
-natural text = if nat_le 1 (length text) && nat_le (length text) MOST_DIGITS then decimal_behind 0 text else None
+natural text =
+    if nat_le 1 (length text) && nat_le (length text) MOST_DIGITS then decimal_behind 0 text else None
 
 -- and an optional `-` before them
 unfoldable pub number : List ℕ → Option ℤ

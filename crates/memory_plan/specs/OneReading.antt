@@ -11,7 +11,8 @@ use Rattle.memory_plan.specs.declared.text_fault.PlanFault.TheVariants as plan_f
 pub record HasOneReading {V R : Type 0} (Value : V → Type 0) (Fault : ℕ → R → Type 0) : Type 0 where
   pub value : (a b : V) → Value a → Value b → a ≡ b
   pub no_fault : (a : V) (line : ℕ) (rule : R) → Value a → Fault line rule → ⊥
-  pub fault : (line other : ℕ) (rule last : R) → Fault line rule → Fault other last → (line ≡ other) × (rule ≡ last)
+  pub fault : (line other : ℕ) (rule last : R) → Fault line rule → Fault other last
+      → (line ≡ other) × (rule ≡ last)
 
 -- the text breaks this rule first, at this line
 abbrev pub image_fault : List ℕ → ℕ → ImageRule → Type 0

@@ -111,7 +111,8 @@ shape_of (kind ∷ tokens) = shape_by kind tokens
 -- ---- what a line declares; none where a number is wrong
 
 -- three ranges, each as it is written
-abbrev pub start_of : ℕ → Option Bool → Option NumberRange → Option NumberRange → Option NumberRange → Option PlanLine
+abbrev pub start_of : ℕ → Option Bool → Option NumberRange → Option NumberRange → Option NumberRange
+    → Option PlanLine
 start_of at b a x y = a >>= λ a'. x >>= λ x'. y >>= λ y'.
     Some (lines.Start (record { at = at; a = a'; x = x'; y = y'; b = b }))
 

@@ -1,7 +1,7 @@
 //! The text of an image.
 
-ghost use Rattle.std.specs.Prelude.{◌≡◌, ◌+◌, ◌<◌, ◌^◌, ◌∷◌, ◌++◌, [], option_map, IfOk, IfErr, MatchResult, Ok, Err, length};
-ghost use Rattle.memory_plan.specs.Images.{word_of_line, image_grammar, IsImage, IsImageFault, image_text, image_line};
+ghost use Rattle.std.specs.Prelude.{◌≡◌, ◌+◌, ◌*◌, ◌<◌, ◌^◌, ◌∷◌, ◌++◌, [], option_map, IfOk, IfErr, MatchResult, Ok, Err, length};
+ghost use Rattle.memory_plan.specs.Images.{word_of_line, image_grammar, IsImage, IsImageFault, image_text, image_line, line_bytes};
 
 use crate::hex_digits::{address_of, word_of};
 use crate::image::Image;
@@ -75,6 +75,7 @@ fn write_line(text: &mut Vec<u8>, at: Addr, word: Word) -> Result<(), AllocError
 pub fn write_image(alloc: Global, image: &Image) -> Result<Vec<u8>, Memory>
     ensures text { IfOk result (λ v. v.items ≡ image_text image.now) }
     ensures read { IfOk result (λ v. IsImage v.items image.now) }
+    ensures size { IfOk result (λ v. length v.items ≡ line_bytes * length image.now) }
 {
     let mut text = Vec::new(alloc);
     for entry in image.words() {

@@ -3,6 +3,7 @@
 ghost use Rattle.std.specs.Prelude.{◌≡◌, ◌≢◌, ◌<◌, ◌≤◌, ◌+◌, ◌^◌, ◌++◌, ℕ, List, length, IfOk, IfErr, MatchOption};
 ghost use Rattle.memory_plan.specs.Images.{image_line, numbers};
 ghost use Rattle.memory_plan.specs.FirstForms.{ReadsLiteral, IsFirstImage, words_from};
+ghost use Rattle.memory_plan.specs.declared.plain_image.TheConstants.{WORDS};
 
 use crate::fault::FirstFault;
 use crate::image::Image;
@@ -13,12 +14,14 @@ use std::alloc::{AllocError, Global};
 use viper_word::{Addr, Word};
 
 /// How many words an image of this form has at the most.
-const WORDS: usize = 256;
+pub(crate) const WORDS: usize = 256;
 
 /// The word of the line of an address, and the text after that line. None exactly where the text
 /// doesn't begin with such a line of a literal read.
 fn read_line(at: Addr, text: &[u8]) -> Option<(Word, &[u8])>
-    ensures { MatchOption result ((w : ℕ) (rest : List ℕ) → ReadsLiteral w → text.now ≢ image_line (at, w) ++ rest) (λ x. ReadsLiteral x.0.0 × (text.now ≡ image_line (at, x.0.0) ++ x.1.now)) }
+    ensures { MatchOption result
+        ((w : ℕ) (rest : List ℕ) → ReadsLiteral w → text.now ≢ image_line (at, w) ++ rest)
+        (λ x. ReadsLiteral x.0.0 × (text.now ≡ image_line (at, x.0.0) ++ x.1.now)) }
 {
     let gap = after(&address_digits(at), text)?;
     let digits = after(b" ", gap)?;
@@ -32,8 +35,9 @@ fn read_line(at: Addr, text: &[u8]) -> Option<(Word, &[u8])>
 /// The words of such a text, from address 0 on. `Unbuilt` comes exactly where it is no such text.
 fn first_words(alloc: Global, text: &[u8]) -> Result<Vec<Word>, FirstFault>
     ensures found { IfOk result (λ words. IsFirstImage text.now (words_from 0 (numbers words.items))) }
-    ensures few { IfOk result (λ words. length words.items ≤ 256) }
-    ensures unbuilt { IfErr result (λ e. e ≡ FirstFault.Unbuilt → (image : List (ℕ × ℕ)) → IsFirstImage text.now image → ⊥) }
+    ensures few { IfOk result (λ words. length words.items ≤ WORDS) }
+    ensures unbuilt { IfErr result (λ e. e ≡ FirstFault.Unbuilt
+        → (image : List (ℕ × ℕ)) → IsFirstImage text.now image → ⊥) }
 {
     let mut words = Vec::new(alloc);
     let mut rest = text;
@@ -58,7 +62,7 @@ fn first_words(alloc: Global, text: &[u8]) -> Result<Vec<Word>, FirstFault>
 
 /// The image that has these words from address 0 on.
 fn placed(alloc: Global, words: &[Word]) -> Result<Image, AllocError>
-    requires { length words.now ≤ 256 }
+    requires { length words.now ≤ WORDS }
     ensures { IfOk result (λ image. image ≡ words_from 0 (numbers words.now)) }
 {
     let mut image = Image::new(alloc);
@@ -76,7 +80,8 @@ fn placed(alloc: Global, words: &[Word]) -> Result<Image, AllocError>
 /// "What `check` reads"). `Unbuilt` comes exactly where the text isn't of this form.
 pub fn first_image(alloc: Global, text: &[u8]) -> Result<Image, FirstFault>
     ensures found { IfOk result (IsFirstImage text.now) }
-    ensures unbuilt { IfErr result (λ e. e ≡ FirstFault.Unbuilt → (image : List (ℕ × ℕ)) → IsFirstImage text.now image → ⊥) }
+    ensures unbuilt { IfErr result (λ e. e ≡ FirstFault.Unbuilt
+        → (image : List (ℕ × ℕ)) → IsFirstImage text.now image → ⊥) }
 {
     let words = first_words(alloc, text)?;
     Ok(placed(alloc, words.as_slice())?)

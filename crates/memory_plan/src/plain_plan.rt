@@ -4,9 +4,11 @@ ghost use Rattle.std.specs.Prelude.{◌≡◌, ◌≢◌, ◌<◌, ◌≤◌, �
 ghost use Rattle.memory_plan.specs.Plans.{PlanLines};
 ghost use Rattle.memory_plan.specs.Runs.{CanRun};
 ghost use Rattle.memory_plan.specs.FirstForms.{any_start, code_plan, first_plan_text, IsFirstPlan};
+ghost use Rattle.memory_plan.specs.declared.plain_image.TheConstants.{WORDS};
 
 use crate::fault::FirstFault;
 use crate::image::Image;
+use crate::plain_image::WORDS;
 use crate::plan::Plan;
 use crate::plan_line::PlanLine;
 use crate::range::Range;
@@ -15,9 +17,6 @@ use crate::start::Start;
 use line_text::address_digits;
 use std::alloc::{AllocError, Global};
 use viper_word::Addr;
-
-/// How many words the image has at the most.
-const WORDS: u32 = 256;
 
 /// The one text of a plan of the plainest form.
 #[tactic(auto, unfolding(crate::specs::FirstForms::first_plan_text))]
@@ -40,7 +39,9 @@ const BEFORE_MARKER: usize = 24;
 
 /// The address that stands where such a text has its marker.
 fn marker_in(text: &[u8]) -> Option<Addr>
-    ensures { MatchOption result ((last marker : ℕ) → text.now ≢ first_plan_text last marker) (λ at. (last marker : ℕ) → marker < 2 ^ 20 → text.now ≡ first_plan_text last marker → marker ≡ at) }
+    ensures { MatchOption result ((last marker : ℕ) → text.now ≢ first_plan_text last marker)
+        (λ at. (last marker : ℕ) → marker < 2 ^ 20 → text.now ≡ first_plan_text last marker
+        → marker ≡ at) }
 {
     let (number, _) = read_digits(5, text.get(BEFORE_MARKER..)?)?;
     Addr::new(number)
@@ -49,9 +50,10 @@ fn marker_in(text: &[u8]) -> Option<Addr>
 /// The plan whose code is the whole image, with one marker, at which the machine starts in any state.
 fn plan_over(alloc: Global, image: &Image, last: Addr, marker: Addr) -> Result<Plan, AllocError>
     requires last { last + 1 ≡ length image.now }
-    requires few { length image.now ≤ 256 }
+    requires few { length image.now ≤ WORDS }
     requires inside { marker < length image.now }
-    ensures plan { IfOk result (λ plan. plan ≡ code_plan image.now (marker ∷ []) (any_start marker ∷ [])) }
+    ensures plan { IfOk result (λ plan. plan
+        ≡ code_plan image.now (marker ∷ []) (any_start marker ∷ [])) }
     ensures can_run { IfOk result CanRun }
 {
     let Some(first) = Addr::new(0) else {
@@ -79,10 +81,11 @@ fn plan_over(alloc: Global, image: &Image, last: Addr, marker: Addr) -> Result<P
 pub fn first_plan(alloc: Global, text: &[u8], image: &Image) -> Result<Plan, FirstFault>
     ensures found { IfOk result (IsFirstPlan image.now text.now) }
     ensures can_run { IfOk result CanRun }
-    ensures unbuilt { IfErr result (λ e. e ≡ FirstFault.Unbuilt → (plan : PlanLines) → IsFirstPlan image.now text.now plan → ⊥) }
+    ensures unbuilt { IfErr result (λ e. e ≡ FirstFault.Unbuilt
+        → (plan : PlanLines) → IsFirstPlan image.now text.now plan → ⊥) }
 {
     let count = image.count();
-    if count == 0 || count > WORDS {
+    if count == 0 || count > WORDS as u32 {
         return Err(FirstFault::Unbuilt);
     }
     let Some(last) = Addr::new(count - 1) else {

@@ -1,4 +1,5 @@
 pub mod Scripts
 pub mod Opening
 pub mod Runs
+pub mod ScriptRuns
 pub mod Log

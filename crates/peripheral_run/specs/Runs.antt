@@ -53,7 +53,8 @@ abbrev pub run_from : PlanLines → ℕ → ℕ → List ℕ → State → Outco
 run_from plan zero k answers s = ends Ran s
 run_from plan (suc n) k answers s =
     given_answer (answer_for plan k (wants s) answers) s (λ w left.
-    with_step k (effect_of plan.profile s w) (next plan.profile s w) (run_from plan n (k + 1) left (next plan.profile s w)))
+    with_step k (effect_of plan.profile s w) (next plan.profile s w)
+    (run_from plan n (k + 1) left (next plan.profile s w)))
 
 -- the run of so many steps from a state
 abbrev pub run_of : PlanLines → ℕ → List ℕ → State → Outcome

@@ -122,10 +122,15 @@ pub record IsNoStart (plan : PlanLines) (text : List ℕ) (number : ℕ) : Type 
 -- Form: the first line that isn't of its form; one past the last line where none states anything. Start: the
 -- line of the state, where the whole text keeps Form.
 abbrev pub BreaksRule : PlanLines → List ℕ → ℕ → ScriptRule → Type 0
-BreaksRule plan text line rules.Form = Breaks script_grammar has_some rules.Form (kept_lines text) (past_end text) line rules.Form
+BreaksRule plan text line rules.Form =
+    Breaks script_grammar has_some rules.Form (kept_lines text) (past_end text) line rules.Form
 BreaksRule plan text line rules.Start = IsNoStart plan text line
 
 -- why a text isn't read as a script: the rule that it breaks first, or want of memory
 abbrev pub IsScriptFault : PlanLines → List ℕ → ScriptFault → Type 0
 IsScriptFault plan text (faults.At line rule) = BreaksRule plan text line rule
 IsScriptFault plan text faults.Memory = Unit {0}
+
+-- the text breaks this rule first, at this line
+abbrev pub script_fault : PlanLines → List ℕ → ℕ → ScriptRule → Type 0
+script_fault plan text line rule = IsScriptFault plan text (faults.At line rule)

@@ -3,6 +3,7 @@
 #![tactic(auto)]
 
 mod fault;
+mod laws;
 mod opening;
 mod out_log;
 mod running;
@@ -10,6 +11,7 @@ mod script;
 mod script_text;
 
 pub use fault::{ScriptFault, ScriptRule};
+pub use laws::{one_script, runs_are_the_plans};
 pub use opening::machine_of;
 pub use out_log::OutLog;
 pub use running::{RunEnd, run};

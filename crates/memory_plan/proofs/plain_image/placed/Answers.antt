@@ -1,4 +1,4 @@
-use Rattle.std.proofs.Common.{◌≡◌, ◌∙◌, ◌+◌, ◌<◌, ◌++◌, ◌∷◌, [], ℕ, suc, List, length, take, get_or, sym, ap, true, arith}
+use Rattle.std.proofs.Common.{◌≡◌, ◌∙◌, ◌+◌, ◌++◌, ◌∷◌, [], ℕ, suc, List, length, take, get_or, sym, ap, arith}
 use Rattle.std.proofs.lemmas.List.{take_all, length-take-le, map_push}
 use Rattle.std.proofs.Math.Seq.{take-suc}
 use Rattle.viper_word.specs.declared.word.Word.{Word}

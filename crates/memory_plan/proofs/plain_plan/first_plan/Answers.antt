@@ -1,4 +1,4 @@
-use Rattle.std.proofs.Common.{◌≡◌, ◌∙◌, ◌+◌, ◌-◌, ◌<◌, ◌≤◌, ℕ, length, ap, arith}
+use Rattle.std.proofs.Common.{◌≡◌, ◌∙◌, ◌-◌, ◌<◌, ◌≤◌, ℕ, length, ap, arith}
 use Rattle.std.proofs.lemmas.Bool.Decides.{nat_tests}
 use Rattle.memory_plan.specs.FirstForms.{first_plan_text}
 use Rattle.memory_plan.proofs.LineLemmas.{address_is, same_texts}
@@ -8,7 +8,7 @@ use Rattle.memory_plan.proofs.plain_plan.first_plan.Goals.{In-Some}
 -- the last address
 last_is : (c : In-Some) → c.in-Some.last ≡ length c.args.image.now - 1
 last_is c =
-    let at = address_is (c.count-count.result - 1) c.in-Some.last (omega (arith, c.if-count-gt-WORDS.false)) c.in-Some.ensures in
+    let at = address_is (c.count-count.result - 1) c.in-Some.last (omega (arith, c.if-count.false)) c.in-Some.ensures in
     omega (arith, at, c.count-count.ensures.count)
 
 pub plan_over-requires : goal.plan_over-requires
@@ -18,7 +18,7 @@ plan_over-requires c =
     let upto : c.in-Some-marker_in.marker ≤ c.in-Some.last = grind (arith, nat_tests, c.if-gt.ensures, c.if-gt.false, c.gt.ensures) in
     record {
       last = omega (arith, last, some);
-      few = omega (arith, c.if-count-gt-WORDS.false, c.count-count.ensures.count);
+      few = omega (arith, c.if-count.false, c.count-count.ensures.count);
       inside = omega (arith, last, some, upto);
     }
 
@@ -29,7 +29,7 @@ returns-clause-found c =
     let upto : c.in-Some-marker_in.marker ≤ c.in-Some.last = grind (arith, nat_tests, c.if-gt.ensures, c.if-gt.false, c.gt.ensures) in
     let same = same_texts c.args.text.now c.as_slice.result.now c.ne.result c.ne.ensures c.if-ne.false in
     record {
-      few = omega (arith, c.if-count-gt-WORDS.false, c.count-count.ensures.count);
+      few = omega (arith, c.if-count.false, c.count-count.ensures.count);
       marker = c.in-Some-marker_in.marker;
       inside = omega (arith, last, some, upto);
       is = c.in_ok-plan_over.ensures.plan;

@@ -1,4 +1,4 @@
-use Rattle.std.proofs.Common.{◌≡◌, ◌∙◌, ◌≤◌, ◌<◌, ℕ, List, take, ap}
+use Rattle.std.proofs.Common.{◌∙◌, ℕ, List, take, ap}
 use Rattle.std.proofs.lemmas.List.{take_rest}
 use Rattle.viper_word.specs.declared.word.Word.{Word}
 use Rattle.memory_plan.specs.Images.{entries, Ascend, words_between}

@@ -1,4 +1,4 @@
-use Rattle.std.proofs.Common.{◌≡◌, ◌≤◌, ◌^◌, length, ap, arith}
+use Rattle.std.proofs.Common.{◌≤◌, ◌^◌, length, ap, arith}
 use Rattle.memory_plan.specs.Images.{entries}
 use Rattle.memory_plan.proofs.ImageLemmas.{few_entries, length-entries}
 use Rattle.memory_plan.proofs.image.Image.count.Goals as goal
