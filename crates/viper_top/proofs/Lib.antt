@@ -17,3 +17,4 @@ pub mod Apart
 pub mod Headlines
 pub mod RunHeadline
 pub mod TextHeadlines
+pub mod OneEnding

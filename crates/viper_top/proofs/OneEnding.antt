@@ -1,6 +1,6 @@
 -- The contents that names hold lead a command to one ending.
 use Rattle.std.proofs.Common.{◌≡◌, ◌∙◌, ℕ, ◌<◌, ◌≤◌, List, [], ◌∷◌, length, Option, Some, None, refl, sym, ap, subst, arith, inl, inr, ◌⊎◌}
-use Rattle.std.specs.Prelude.{IsSomeAnd}
+use Rattle.std.specs.Prelude.{IsSomeAnd, codes}
 use Rattle.std.proofs.lemmas.Option.{same_Some}
 use Rattle.memory_plan.specs.Images.{ImageWords}
 use Rattle.memory_plan.specs.Plans.{PlanLines}
@@ -10,7 +10,7 @@ use Rattle.field_asm.proofs.OneSource.{source_reading}
 use Rattle.peripheral_run.proofs.OneScript.{script_reading}
 use Rattle.viper_top.specs.Endings.{Ending, input}
 use Rattle.viper_top.specs.Orders.{Order, Check, Run, Assemble, Disasm}
-use Rattle.viper_top.specs.Contents.{Kind, Image, Plan, Cert, WholeImage, WholePlan, Script, Source, Value, Fault, AtLine, title_of, limit_of, Spells, Breaks, line_text, long_text, fault_text}
+use Rattle.viper_top.specs.Contents.{Kind, Image, Plan, Cert, WholeImage, WholePlan, Script, Source, Value, Fault, AtLine, limit_of, Spells, Breaks, image_rule, plan_rule, script_rule, source_rule, line_text, fault_text}
 use Rattle.viper_top.specs.Works.{Work, Does, Reads, Comes}
 use Rattle.viper_top.specs.Commands.{Task, Checks, Runs, Assembles, Lists, Ends, over_plan, with_cert, with_plan, with_script, work_of}
 use Rattle.viper_top.specs.Promises.{IsContent, Leads, HasOneEnding}
@@ -42,10 +42,7 @@ after_one : (holds : List ℕ → Option (List ℕ)) (kind : Kind) (name : List 
 after_one holds kind name next e f once rest (c, is_c, comes_c) (d, is_d, comes_d) =
     by c comes_c (subst (λ (x : Option (List ℕ)). Comes kind x [] f (λ v. Leads holds (next v) f)) (one_content (limit_of kind) (holds name) d c is_d is_c) comes_d)
   where
-    both : (bytes : List ℕ) → IsReadOnce kind bytes
-        → ((fault : Fault kind) × Breaks kind bytes fault × ([] ≡ []) × (e ≡ input (fault_text kind fault))) ⊎ ((v : Value kind) × Spells kind bytes v × Leads holds (next v) e)
-        → ((fault : Fault kind) × Breaks kind bytes fault × ([] ≡ []) × (f ≡ input (fault_text kind fault))) ⊎ ((v : Value kind) × Spells kind bytes v × Leads holds (next v) f)
-        → e ≡ f
+    both : (bytes : List ℕ) → IsReadOnce kind bytes → Comes kind (Some bytes) [] e (λ v. Leads holds (next v) e) → Comes kind (Some bytes) [] f (λ v. Leads holds (next v) f) → e ≡ f
     both bytes one (inl a) (inl b) = a.3 ∙ ap input (one.text a.0 b.0 a.1 b.1) ∙ sym b.3
     both bytes one (inl a) (inr b) = absurd (one.apart b.0 a.0 b.1 a.1)
     both bytes one (inr a) (inl b) = absurd (one.apart a.0 b.0 a.1 b.1)
@@ -77,7 +74,7 @@ whole_image_once bytes =
     record {
       value = one.value;
       apart = λ v fault. one.no_fault v fault.line fault.rule;
-      text = λ fault other a b. same_line _ _ fault other (one.fault fault.line other.line fault.rule other.rule a b);
+      text = λ fault other a b. same_line (codes "image") image_rule fault other (one.fault fault.line other.line fault.rule other.rule a b);
     }
 
 whole_plan_once : (image : ImageWords) (bytes : List ℕ) → IsReadOnce (WholePlan image) bytes
@@ -86,7 +83,7 @@ whole_plan_once image bytes =
     record {
       value = one.value;
       apart = λ v fault. one.no_fault v fault.line fault.rule;
-      text = λ fault other a b. same_line _ _ fault other (one.fault fault.line other.line fault.rule other.rule a b);
+      text = λ fault other a b. same_line (codes "plan") plan_rule fault other (one.fault fault.line other.line fault.rule other.rule a b);
     }
 
 script_once : (plan : PlanLines) (bytes : List ℕ) → IsReadOnce (Script plan) bytes
@@ -95,7 +92,7 @@ script_once plan bytes =
     record {
       value = one.value;
       apart = λ v fault. one.no_fault v fault.line fault.rule;
-      text = λ fault other a b. same_line _ _ fault other (one.fault fault.line other.line fault.rule other.rule a b);
+      text = λ fault other a b. same_line (codes "script") script_rule fault other (one.fault fault.line other.line fault.rule other.rule a b);
     }
 
 source_once : (bytes : List ℕ) → IsReadOnce Source bytes
@@ -104,7 +101,7 @@ source_once bytes =
     record {
       value = one.value;
       apart = λ v fault. one.no_fault v fault.line fault.rule;
-      text = λ fault other a b. same_line _ _ fault other (one.fault fault.line other.line fault.rule other.rule a b);
+      text = λ fault other a b. same_line (codes "source") source_rule fault other (one.fault fault.line other.line fault.rule other.rule a b);
     }
 
 -- ---- the commands
@@ -112,12 +109,12 @@ source_once bytes =
 pub one_ending : (order : Order) → HasOneEnding order
 one_ending (Check image plan cert) holds e f =
     after_one holds Image image (λ words. Reads (Plan words) plan (with_cert Checks cert)) e f image_once
-      (λ bytes words is. after_one holds (Plan words) plan (with_cert Checks cert) e f (λ text. plan_once words text (image_few bytes words is))
-        (λ text lines read. after_one holds Cert cert (λ c. Does (Checks lines c)) e f cert_once (λ spelling c spelled a b. a ∙ sym b)))
+    (λ bytes words is. after_one holds (Plan words) plan (with_cert Checks cert) e f (λ text. plan_once words text (image_few bytes words is))
+    (λ text lines read. after_one holds Cert cert (λ c. Does (Checks lines c)) e f cert_once (λ spelling c spelled a b. a ∙ sym b)))
 one_ending (Run image plan script steps) holds e f =
     after_one holds WholeImage image (with_plan plan script steps) e f whole_image_once
-      (λ bytes words is. after_one holds (WholePlan words) plan (with_script script steps) e f (whole_plan_once words)
-        (λ text lines read. after_one holds (Script lines) script (λ s. Does (Runs lines s steps)) e f (script_once lines) (λ spelling s spelled a b. a ∙ sym b)))
+    (λ bytes words is. after_one holds (WholePlan words) plan (with_script script steps) e f (whole_plan_once words)
+    (λ text lines read. after_one holds (Script lines) script (λ s. Does (Runs lines s steps)) e f (script_once lines) (λ spelling s spelled a b. a ∙ sym b)))
 one_ending (Assemble source image) holds e f =
     after_one holds Source source (λ words. Does (Assembles words)) e f source_once (λ bytes words is a b. a ∙ sym b)
 one_ending (Disasm image) holds e f =

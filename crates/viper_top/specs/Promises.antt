@@ -162,3 +162,8 @@ pub record Settled (order : Order) (before : Stock) (ends : Status) (out_before 
   pub leads : Leads before.holds (work_of order) ending
   pub status : ends ≡ ending.status
   pub put : Wrote out_before.text ending.text out_now.text
+
+-- The contents that names hold lead the command to one ending.
+abbrev pub HasOneEnding : Order → Type 0
+HasOneEnding order =
+    (holds : List ℕ → Option (List ℕ)) (e f : Ending) → Leads holds (work_of order) e → Leads holds (work_of order) f → e ≡ f

@@ -1,3 +1,5 @@
+ghost use Rattle.viper_top.specs.Orders.{Order};
+ghost use Rattle.viper_top.specs.Promises.{HasOneEnding};
 ghost use Rattle.viper_top.specs.Claims.{LocalSuffices, LocalCarries, UniqueSpellings, YesExactlyWhereLocal};
 
 /// Local conditions suffice: where they hold of a plan whose words are all literal reads and of a
@@ -26,4 +28,11 @@ pub fn spellings_are_unique()
 /// else a no, with the first that fails (docs/METHOD.md, "Verdicts").
 pub fn yes_exactly_where_local()
     ensures { YesExactlyWhereLocal }
+{}
+
+/// The contents that names hold lead a command to one ending, whichever it is: its status, its text
+/// and the bytes that it places. So where nothing failed, `viper_main` (clause `complete`) gives that
+/// ending, or finds no memory.
+pub fn endings_are_determined()
+    ensures { (order : Order) → HasOneEnding order }
 {}

@@ -32,7 +32,8 @@ mod top;
 mod usage;
 
 pub use laws::{
-    local_conditions_suffice, runs_are_carried, spellings_are_unique, yes_exactly_where_local,
+    endings_are_determined, local_conditions_suffice, runs_are_carried, spellings_are_unique,
+    yes_exactly_where_local,
 };
 pub use status::Status;
 pub use top::{sure_main, viper_main};
