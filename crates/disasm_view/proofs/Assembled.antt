@@ -1,15 +1,15 @@
 -- The listing of an image is a source of it.
-use Rattle.std.proofs.Common.{◌≡◌, ◌∙◌, ℕ, ◌+◌, ◌<◌, ◌^◌, Bool, true, false, cond, eqb, ltb, ◌&&◌, List, [], ◌∷◌, ◌++◌, Option, Some, None, is_some, Result, Ok, refl, sym, ap, subst, append_assoc, append-nil, arith}
+use Rattle.std.proofs.Common.{◌≡◌, ◌∙◌, ℕ, ◌+◌, ◌<◌, ◌^◌, Bool, true, false, cond, eqb, ltb, List, [], ◌∷◌, ◌++◌, Option, None, is_some, Result, refl, sym, ap, subst, append_assoc, append-nil, arith}
 use Rattle.std.proofs.lemmas.Bool.Decides.{nat_tests}
 use Rattle.std.proofs.lemmas.List.Splits.{slice_split_at}
-use Rattle.text_lines.specs.Lines.{NumberedLine, lines_of, numbered, unless, is_skipped, kept_lines}
+use Rattle.text_lines.specs.Lines.{NumberedLine, lines_of, numbered, unless, kept_lines}
 use Rattle.text_lines.specs.Parts.{parts_of}
 use Rattle.text_lines.specs.Reading.{Say, made}
 use Rattle.text_lines.proofs.Cuts.{lines_of_nothing, lines_of_cut}
 use Rattle.text_lines.proofs.Readings.{made_push}
 use Rattle.memory_plan.specs.Images.{ImageWords, word_at, with_word, Ascend, Fit, AreImageWords}
 use Rattle.field_asm.specs.declared.fault.AsmRule.{AsmRule}
-use Rattle.field_asm.specs.Sources.{SourceLine, Is, SoFar, Labels, nothing_yet, put_word, add_line, add_word, judge_line, source_grammar, label_grammar, unless_unknown, labels_of, words_of, IsSource, ◌>>=◌}
+use Rattle.field_asm.specs.Sources.{SourceLine, Is, SoFar, Labels, nothing_yet, put_word, add_line, add_word, source_grammar, label_grammar, unless_unknown, labels_of, IsSource, ◌>>=◌}
 use Rattle.disasm_view.specs.Listings.{source_line, listing}
 use Rattle.disasm_view.proofs.Judged.{line_without, line_is_kept, line_says}
 

@@ -1,19 +1,16 @@
 -- What the assembler says of a listing's line: the word at its address.
-use Rattle.std.proofs.Common.{◌≡◌, ◌∙◌, ℕ, zero, suc, ◌/◌, ◌%◌, ◌<◌, ◌^◌, ◌==◌, Bool, true, false, eqb, List, [], ◌∷◌, ◌++◌, Option, Some, None, Result, Ok, refl, sym, ap, arith}
-use Rattle.std.specs.List.{All}
-use Rattle.std.proofs.lemmas.List.Elements.{All-append}
+use Rattle.std.proofs.Common.{◌≡◌, ℕ, zero, suc, ◌/◌, ◌%◌, ◌<◌, ◌^◌, ◌==◌, false, eqb, [], ◌∷◌, ◌++◌, None, Ok, refl, sym, ap, arith}
 use Rattle.std.proofs.lemmas.Bool.Decides.{nat_tests}
 use Rattle.viper_word.specs.Digits.{digit, digits, address_digits}
-use Rattle.viper_word.specs.Fields.{Fields, AreFields, bit_value, word_of, fields_of, IsFieldsOf}
+use Rattle.viper_word.specs.Fields.{Fields, AreFields, bit_value, fields_of, IsFieldsOf}
 use Rattle.text_lines.specs.Lines.{is_skipped}
 use Rattle.text_lines.specs.Parts.{tokens_of}
 use Rattle.memory_plan.specs.Images.{word_at}
 use Rattle.memory_plan.proofs.Written.{digits_apart}
 use Rattle.field_asm.specs.Tables.{register_names, mode_names, destination_names}
-use Rattle.field_asm.specs.declared.fault.AsmRule.{AsmRule}
-use Rattle.field_asm.specs.Sources.{SourceLine, Is, SoFar, judge_line}
+use Rattle.field_asm.specs.Sources.{Is, SoFar, judge_line}
 use Rattle.disasm_view.specs.Listings.{name_of, operation_name, spaced, fields_line, source_line}
-use Rattle.disasm_view.proofs.Named.{Without, IsNameOf, IsOperationName, operation_is_named, register_is_named, mode_is_named, destination_is_named}
+use Rattle.disasm_view.proofs.Named.{Without, operation_is_named, register_is_named, mode_is_named, destination_is_named}
 use Rattle.disasm_view.proofs.Tokens.{digits_are_read, digits_are_no_label, digits_are_no_plus, six_tokens, without_two}
 
 -- ---- the numbers of a word

@@ -1,12 +1,12 @@
 -- The name of a code: it is one token of one line, and it is read as its code.
-use Rattle.std.proofs.Common.{◌≡◌, ℕ, zero, suc, ◌<◌, Bool, true, false, cond, eqb, ◌&&◌, ◌||◌, not, List, [], ◌∷◌, length, Option, Some, None, option_map, is_some, slice_get, refl, arith}
+use Rattle.std.proofs.Common.{◌≡◌, ℕ, zero, suc, ◌<◌, Bool, true, false, cond, eqb, ◌&&◌, ◌||◌, not, List, [], ◌∷◌, length, Option, Some, None, is_some, slice_get, refl, arith}
 use Rattle.std.specs.List.{All, list_any}
 use Rattle.std.proofs.lemmas.List.Elements.{All-cons}
-use Rattle.text_lines.specs.Parts.{parts_of, tokens_of}
+use Rattle.text_lines.specs.Parts.{parts_of}
 use Rattle.viper_word.specs.Fields.{Fields, AreFields}
-use Rattle.field_asm.specs.Names.{code_of, is_name, are_names}
+use Rattle.field_asm.specs.Names.{code_of, are_names}
 use Rattle.field_asm.specs.Tables.{function_names, comparison_names, destination_names, mode_names, register_names}
-use Rattle.field_asm.specs.Tokens.{operation_of, either_code}
+use Rattle.field_asm.specs.Tokens.{operation_of}
 use Rattle.field_asm.proofs.NameLemmas.{name_codes}
 use Rattle.disasm_view.specs.Listings.{name_of, operation_name}
 

@@ -1,18 +1,16 @@
 -- The tokens of a listing's line, and that it is no comment.
-use Rattle.std.proofs.Common.{◌≡◌, ◌∙◌, ℕ, zero, suc, ◌/◌, ◌%◌, ◌+◌, ◌^◌, ◌<◌, Bool, true, false, ◌&&◌, eqb, List, [], ◌∷◌, ◌++◌, length, Option, Some, refl, sym, ap, arith}
+use Rattle.std.proofs.Common.{◌≡◌, ◌∙◌, ℕ, zero, suc, ◌/◌, ◌%◌, ◌^◌, ◌<◌, Bool, true, false, ◌&&◌, eqb, List, [], ◌∷◌, ◌++◌, Some, refl, ap, arith}
 use Rattle.std.specs.Prelude.{codes}
-use Rattle.std.specs.List.{All, list_any}
+use Rattle.std.specs.List.{All}
 use Rattle.std.proofs.lemmas.Bool.Decides.{nat_tests}
 use Rattle.std.proofs.lemmas.List.Elements.{All-cons, All-append, All-push}
 use Rattle.std.proofs.lemmas.List.Folds.{list_any_none}
 use Rattle.std.proofs.lemmas.List.Splits.{slice_split_at, slice_split_none}
 use Rattle.viper_word.specs.Digits.{digit, digits, address_digits}
-use Rattle.text_lines.specs.Lines.{is_skipped}
 use Rattle.text_lines.specs.Parts.{parts_of, tokens_of}
 use Rattle.memory_plan.specs.Numbers.{same_text}
-use Rattle.memory_plan.proofs.Written.{digits_apart, digits_read}
+use Rattle.memory_plan.proofs.Written.{digits_read}
 use Rattle.field_asm.specs.Tokens.{is_lower, upper_number, begins_label}
-use Rattle.field_asm.proofs.NameLemmas.{same_text_is}
 use Rattle.disasm_view.proofs.Named.{Without}
 
 -- ---- digits

@@ -1,10 +1,8 @@
 -- The contents that names hold lead a command to one ending.
-use Rattle.std.proofs.Common.{◌≡◌, ◌∙◌, ℕ, ◌<◌, ◌≤◌, List, [], ◌∷◌, length, Option, Some, None, refl, sym, ap, subst, arith, inl, inr, ◌⊎◌}
+use Rattle.std.proofs.Common.{◌≡◌, ◌∙◌, ℕ, ◌<◌, ◌≤◌, List, [], length, Option, Some, None, refl, sym, ap, subst, arith, inl, inr}
 use Rattle.std.specs.Prelude.{IsSomeAnd, codes}
-use Rattle.std.proofs.lemmas.Option.{same_Some}
 use Rattle.memory_plan.specs.Images.{ImageWords}
 use Rattle.memory_plan.specs.Plans.{PlanLines}
-use Rattle.memory_plan.specs.OneReading.{HasOneReading}
 use Rattle.memory_plan.proofs.OneValue.{image_reading, plan_reading}
 use Rattle.field_asm.proofs.OneSource.{source_reading}
 use Rattle.peripheral_run.proofs.OneScript.{script_reading}
@@ -12,7 +10,7 @@ use Rattle.viper_top.specs.Endings.{Ending, input}
 use Rattle.viper_top.specs.Orders.{Order, Check, Run, Assemble, Disasm}
 use Rattle.viper_top.specs.Contents.{Kind, Image, Plan, Cert, WholeImage, WholePlan, Script, Source, Value, Fault, AtLine, limit_of, Spells, Breaks, image_rule, plan_rule, script_rule, source_rule, line_text, fault_text}
 use Rattle.viper_top.specs.Works.{Work, Does, Reads, Comes}
-use Rattle.viper_top.specs.Commands.{Task, Checks, Runs, Assembles, Lists, Ends, over_plan, with_cert, with_plan, with_script, work_of}
+use Rattle.viper_top.specs.Commands.{Task, Checks, Runs, Assembles, Lists, with_cert, with_plan, with_script}
 use Rattle.viper_top.specs.Promises.{IsContent, Leads, HasOneEnding}
 use Rattle.viper_top.proofs.Unique.{image_unique, image_few, plan_unique, cert_unique}
 

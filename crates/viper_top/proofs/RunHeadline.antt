@@ -8,7 +8,7 @@ use Rattle.viper_top.specs.declared.status.Status.TheVariants.{Done, Refused, In
 use Rattle.viper_top.specs.Endings.{Ending, EndsAnswered}
 use Rattle.viper_top.specs.Orders.{Run}
 use Rattle.viper_top.specs.Contents.{WholeImage, WholePlan, Script}
-use Rattle.viper_top.specs.Works.{Does, Reads, Walks}
+use Rattle.viper_top.specs.Works.{Does, Walks}
 use Rattle.viper_top.specs.Run.{ran}
 use Rattle.viper_top.specs.Commands.{Runs, Ends, over_image, with_plan, with_script}
 use Rattle.viper_top.specs.Promises.{Given, Answered}

@@ -1,17 +1,14 @@
 -- What Done means of an assembly and of a listing.
-use Rattle.std.proofs.Common.{◌≡◌, ◌≢◌, ℕ, List, [], ◌∷◌, ◌++◌, Option, Some, None, true, sym, ap, subst, ◌∙◌}
-use Rattle.memory_plan.specs.Images.{ImageWords, image_text}
+use Rattle.std.proofs.Common.{◌≡◌, ℕ, List, ◌∷◌, ◌++◌, Some, ap, subst, ◌∙◌}
 use Rattle.memory_plan.proofs.ImageFits.{image_fits}
-use Rattle.disasm_view.specs.Listings.{listing}
 use Rattle.disasm_view.proofs.Assembled.{listing_is_source}
-use Rattle.viper_io.specs.Causes.{Stock, Output, Handed, Wrote, HoldsWhereTold}
-use Rattle.viper_top.specs.declared.status.Status.{Status}
+use Rattle.viper_io.specs.Causes.{Stock, Output, Handed, Wrote}
 use Rattle.viper_top.specs.declared.status.Status.TheVariants.{Done, Input}
 use Rattle.viper_top.specs.Endings.{Ending}
-use Rattle.viper_top.specs.Orders.{Assemble, Disasm, target_of}
+use Rattle.viper_top.specs.Orders.{Assemble, Disasm}
 use Rattle.viper_top.specs.Contents.{Kind, Value, WholeImage, Source}
-use Rattle.viper_top.specs.Works.{Work, Does, Reads, Walks}
-use Rattle.viper_top.specs.Assemble.{words_text, assembled}
+use Rattle.viper_top.specs.Works.{Does, Reads, Walks}
+use Rattle.viper_top.specs.Assemble.{assembled}
 use Rattle.viper_top.specs.Disasm.{listed}
 use Rattle.viper_top.specs.Commands.{Task, Assembles, Lists, Ends}
 use Rattle.viper_top.specs.Promises.{Given, Answered, IsPlaced}
