@@ -30,11 +30,23 @@ build() {
     touch -r "$1/begun" "$program"
 }
 
-# The names among viper's words that are read; the last name of a command that places isn't.
+# The names among viper's words that are read, and the one that is placed.
 names_read() {
     case ${1-} in
         check | run) printf '%s\n' "${@:2:3}" ;;
+        assemble | disasm) printf '%s\n' "${@:2:1}" ;;
     esac
+}
+
+name_placed() {
+    case ${1-} in
+        assemble) printf '%s\n' "${@:3:1}" ;;
+    esac
+}
+
+# Can the file be written, or made in its folder?
+can_write() {
+    if [ -e "$1" ]; then [ -w "$1" ] && [ ! -d "$1" ]; else [ -w "$(dirname "$1")" ]; fi
 }
 
 if is_due; then
@@ -49,10 +61,13 @@ fi
 
 "$program" "$@"
 status=$?
-# Status 4 has no text of its own: which name can't be read?
+# Status 4 has no text of its own: which name can't be read, or written?
 if [ "$status" = 4 ]; then
     names_read "$@" | while IFS= read -r name; do
         [ -r "$name" ] && [ ! -d "$name" ] || echo "viper: no file that can be read: $name" >&2
+    done
+    name_placed "$@" | while IFS= read -r name; do
+        can_write "$name" || echo "viper: no file that can be written: $name" >&2
     done
 fi
 exit "$status"
