@@ -19,8 +19,9 @@ use Rattle.memory_plan.specs.Runs.{IsFair}
 use Rattle.memory_plan.specs.WellFormed.{AreSpans}
 use Rattle.memory_plan.proofs.RangeIn.{test_is_in}
 use Rattle.memory_plan.proofs.RunsExist.{range_of}
+use Rattle.peripheral_run.specs.Log.{Output}
 use Rattle.peripheral_run.specs.Runs.{Outcome, may_answer, answer_for, given_answer, with_step, run_from, run_of}
-use Rattle.peripheral_run.specs.ScriptRuns.{steps_performed, has_stopped, answers_read, IsRunOver, RunsFromStart}
+use Rattle.peripheral_run.specs.ScriptRuns.{steps_performed, has_stopped, answers_read, out_before, outputs_from, IsRunOver, RunsFromStart}
 use Rattle.peripheral_run.specs.declared.running.RunEnd.{RunEnd}
 use Rattle.peripheral_run.specs.declared.running.RunEnd.TheVariants.{Ran, Stopped, ScriptEnded, OutOfRange}
 
@@ -125,7 +126,7 @@ fair_some plan s at v are e word may = record {
 -- ---- the states of a run
 
 -- states that a run goes through from its step k on, to this ending
-record RunsTo (plan : PlanLines) (steps k : ℕ) (script : List ℕ) (s : State) (ending : RunEnd) (last : State) : Type 0 where
+record RunsTo (plan : PlanLines) (steps k : ℕ) (script : List ℕ) (s : State) (ending : RunEnd) (last : State) (outputs : List Output) : Type 0 where
   states : List State
   answers : List ℕ
   count : length states ≡ length answers + 1
@@ -136,10 +137,11 @@ record RunsTo (plan : PlanLines) (steps k : ℕ) (script : List ℕ) (s : State)
   performed : k + length answers ≡ steps_performed steps ending
   left : List ℕ
   taken : script ≡ answers_read states answers ++ left
+  told : outputs ≡ outputs_from plan.profile k states answers
   stop : last.stop ≡ has_stopped ending
 
 -- no step more
-ends_here : (plan : PlanLines) (steps k : ℕ) (script : List ℕ) (s : State) (ending : RunEnd) → k ≡ steps_performed steps ending → s.stop ≡ has_stopped ending → RunsTo plan steps k script s ending s
+ends_here : (plan : PlanLines) (steps k : ℕ) (script : List ℕ) (s : State) (ending : RunEnd) → k ≡ steps_performed steps ending → s.stop ≡ has_stopped ending → RunsTo plan steps k script s ending s []
 ends_here plan steps k script s ending performed stop = record {
   states = s ∷ [];
   answers = [];
@@ -151,6 +153,7 @@ ends_here plan steps k script s ending performed stop = record {
   performed = omega (arith, performed);
   left = script;
   taken = refl;
+  told = refl;
   stop = stop;
 }
 
@@ -179,9 +182,9 @@ takes_more None w script left behind read h e = h ∙ e
 takes_more (Some at) w script left behind read h e = h ∙ ap (λ (ws : List ℕ). w ∷ ws) e
 
 -- one step more in front
-one_more : (plan : PlanLines) (steps k : ℕ) (script left : List ℕ) (s : State) (w : ℕ) (ending : RunEnd) (last : State) → IsFair plan s w → Takes (wants s) w script left
-    → RunsTo plan steps (k + 1) left (next plan.profile s w) ending last → RunsTo plan steps k script s ending last
-one_more plan steps k script left s w ending last fair takes h = record {
+one_more : (plan : PlanLines) (steps k : ℕ) (script left : List ℕ) (s : State) (w : ℕ) (ending : RunEnd) (last : State) (outputs : List Output) → IsFair plan s w → Takes (wants s) w script left
+    → RunsTo plan steps (k + 1) left (next plan.profile s w) ending last outputs → RunsTo plan steps k script s ending last (out_before k (effect_of plan.profile s w) outputs)
+one_more plan steps k script left s w ending last outputs fair takes h = record {
   states = s ∷ h.states;
   answers = w ∷ h.answers;
   count = let count = h.count in omega (arith, count);
@@ -192,6 +195,7 @@ one_more plan steps k script left s w ending last fair takes h = record {
   performed = omega (arith, h.performed);
   left = h.left;
   taken = takes_more (wants s) w script left h.left (answers_read h.states h.answers) takes h.taken;
+  told = ap (out_before k (effect_of plan.profile s w)) h.told;
   stop = h.stop;
 }
 
@@ -200,11 +204,11 @@ one_more plan steps k script left s w ending last fair takes h = record {
 -- the rest of a run goes through states
 abbrev Rest : PlanLines → ℕ → ℕ → ℕ → Type 0
 Rest plan steps n k =
-    (left : List ℕ) (t : State) → AllByRecursion IsWord left → t.stop ≡ false → RunsTo plan steps k left t (run_from plan n k left t).ending (run_from plan n k left t).last
+    (left : List ℕ) (t : State) → AllByRecursion IsWord left → t.stop ≡ false → RunsTo plan steps k left t (run_from plan n k left t).ending (run_from plan n k left t).last (run_from plan n k left t).outputs
 
 stepped : (plan : PlanLines) (steps n k : ℕ) (script left : List ℕ) (s : State) (w : ℕ) → Rest plan steps n (k + 1) → s.stop ≡ false → AllByRecursion IsWord left → IsFair plan s w → Takes (wants s) w script left
-    → (e : Effect) → effect_of plan.profile s w ≡ e → (o : Outcome) → o ≡ with_step k e (next plan.profile s w) (run_from plan n (k + 1) left (next plan.profile s w)) → RunsTo plan steps k script s o.ending o.last
-stepped plan steps n k script left s w rest runs words fair takes e told o is = subst (λ (out : Outcome). RunsTo plan steps k script s out.ending out.last) (sym is) (by e told)
+    → (e : Effect) → effect_of plan.profile s w ≡ e → (o : Outcome) → o ≡ with_step k e (next plan.profile s w) (run_from plan n (k + 1) left (next plan.profile s w)) → RunsTo plan steps k script s o.ending o.last o.outputs
+stepped plan steps n k script left s w rest runs words fair takes e told o is = subst (λ (out : Outcome). RunsTo plan steps k script s out.ending out.last out.outputs) (sym is) (by e told)
   where
     t : State
     t = next plan.profile s w
@@ -212,28 +216,36 @@ stepped plan steps n k script left s w rest runs words fair takes e told o is = 
     stop : (f : Effect) → effect_of plan.profile s w ≡ f → tells_stop f ≡ t.stop
     stop f g = ap tells_stop (sym g) ∙ stop_told plan.profile s w runs
 
-    goes_on : t.stop ≡ false → RunsTo plan steps k script s (run_from plan n (k + 1) left t).ending (run_from plan n (k + 1) left t).last
-    goes_on running = one_more plan steps k script left s w (run_from plan n (k + 1) left t).ending (run_from plan n (k + 1) left t).last fair takes (rest left t words running)
+    rest_of : Outcome
+    rest_of = run_from plan n (k + 1) left t
 
-    by : (f : Effect) → effect_of plan.profile s w ≡ f → RunsTo plan steps k script s (with_step k f t (run_from plan n (k + 1) left t)).ending (with_step k f t (run_from plan n (k + 1) left t)).last
-    by effects.Quiet g = goes_on (sym (stop effects.Quiet g))
-    by (effects.Wrote at v) g = goes_on (sym (stop (effects.Wrote at v) g))
-    by (effects.Out at v) g = goes_on (sym (stop (effects.Out at v) g))
-    by (effects.Stopped cause) g = one_more plan steps k script left s w (Stopped k cause) t fair takes (ends_here plan steps (k + 1) left t (Stopped k cause) refl (sym (stop (effects.Stopped cause) g)))
+    -- with what this effect puts out in front
+    goes_on : (f : Effect) → effect_of plan.profile s w ≡ f → tells_stop f ≡ false → RunsTo plan steps k script s rest_of.ending rest_of.last (out_before k f rest_of.outputs)
+    goes_on f g quiet =
+        subst (λ (h : Effect). RunsTo plan steps k script s rest_of.ending rest_of.last (out_before k h rest_of.outputs)) g
+        (one_more plan steps k script left s w rest_of.ending rest_of.last rest_of.outputs fair takes (rest left t words (sym (stop f g) ∙ quiet)))
+
+    by : (f : Effect) → effect_of plan.profile s w ≡ f → RunsTo plan steps k script s (with_step k f t rest_of).ending (with_step k f t rest_of).last (with_step k f t rest_of).outputs
+    by effects.Quiet g = goes_on effects.Quiet g refl
+    by (effects.Wrote at v) g = goes_on (effects.Wrote at v) g refl
+    by (effects.Out at v) g = goes_on (effects.Out at v) g refl
+    by (effects.Stopped cause) g =
+        subst (λ (h : Effect). RunsTo plan steps k script s (Stopped k cause) t (out_before k h [])) g
+        (one_more plan steps k script left s w (Stopped k cause) t [] fair takes (ends_here plan steps (k + 1) left t (Stopped k cause) refl (sym (stop (effects.Stopped cause) g))))
 
 -- the outcome of a step that is asked with this answer, or none
 abbrev after_answer : PlanLines → ℕ → ℕ → State → Result (ℕ × List ℕ) RunEnd → Outcome
 after_answer plan n k s r = given_answer r s (λ w left. with_step k (effect_of plan.profile s w) (next plan.profile s w) (run_from plan n (k + 1) left (next plan.profile s w)))
 
 chosen : (plan : PlanLines) (steps n k at v : ℕ) (vs : List ℕ) (s : State) → AreSpans plan.inputs → Rest plan steps n (k + 1) → AllByRecursion IsWord (v ∷ vs) → s.stop ≡ false → wants s ≡ Some at
-    → (b : Bool) → may_answer (range_at plan.inputs at) v ≡ b → (o : Outcome) → o ≡ after_answer plan n k s (cond b (Ok (v, vs)) (Err (OutOfRange k at (record { 0 = v })))) → RunsTo plan steps k (v ∷ vs) s o.ending o.last
+    → (b : Bool) → may_answer (range_at plan.inputs at) v ≡ b → (o : Outcome) → o ≡ after_answer plan n k s (cond b (Ok (v, vs)) (Err (OutOfRange k at (record { 0 = v })))) → RunsTo plan steps k (v ∷ vs) s o.ending o.last o.outputs
 chosen plan steps n k at v vs s are rest words runs wanted true may o is =
     stepped plan steps n k (v ∷ vs) vs s v rest runs words.1 (fair_some plan s at v are wanted words.0 may) (subst (λ (w : Option ℕ). Takes w v (v ∷ vs) vs) (sym wanted) refl) (effect_of plan.profile s v) refl o is
 chosen plan steps n k at v vs s are rest words runs wanted false may o is =
-    subst (λ (out : Outcome). RunsTo plan steps k (v ∷ vs) s out.ending out.last) (sym is) (ends_here plan steps k (v ∷ vs) s (OutOfRange k at (record { 0 = v })) refl runs)
+    subst (λ (out : Outcome). RunsTo plan steps k (v ∷ vs) s out.ending out.last out.outputs) (sym is) (ends_here plan steps k (v ∷ vs) s (OutOfRange k at (record { 0 = v })) refl runs)
 
 answered : (plan : PlanLines) (steps n k : ℕ) (script : List ℕ) (s : State) → AreSpans plan.inputs → Rest plan steps n (k + 1) → AllByRecursion IsWord script → s.stop ≡ false → (wanted : Option ℕ) → wants s ≡ wanted
-    → RunsTo plan steps k script s (after_answer plan n k s (answer_for plan k wanted script)).ending (after_answer plan n k s (answer_for plan k wanted script)).last
+    → RunsTo plan steps k script s (after_answer plan n k s (answer_for plan k wanted script)).ending (after_answer plan n k s (answer_for plan k wanted script)).last (after_answer plan n k s (answer_for plan k wanted script)).outputs
 answered plan steps n k script s are rest words runs None e =
     stepped plan steps n k script script s 0 rest runs words (fair_none plan s e) (subst (λ (w : Option ℕ). Takes w 0 script script) (sym e) refl) (effect_of plan.profile s 0) refl (after_answer plan n k s (Ok (0, script))) refl
 answered plan steps n k [] s are rest words runs (Some at) e = ends_here plan steps k [] s (ScriptEnded k at) refl runs
@@ -241,7 +253,7 @@ answered plan steps n k (v ∷ vs) s are rest words runs (Some at) e =
     chosen plan steps n k at v vs s are rest words runs e (may_answer (range_at plan.inputs at) v) refl (after_answer plan n k s (answer_for plan k (Some at) (v ∷ vs))) refl
 
 run_goes : (plan : PlanLines) (steps n k : ℕ) (script : List ℕ) (s : State) → AreSpans plan.inputs → k + n ≡ steps → AllByRecursion IsWord script → s.stop ≡ false
-    → RunsTo plan steps k script s (run_from plan n k script s).ending (run_from plan n k script s).last
+    → RunsTo plan steps k script s (run_from plan n k script s).ending (run_from plan n k script s).last (run_from plan n k script s).outputs
 run_goes plan steps zero k script s are all words runs = ends_here plan steps k script s Ran (omega (arith, all)) runs
 run_goes plan steps (suc n) k script s are all words runs =
     answered plan steps n k script s are (λ left t others running. run_goes plan steps n (k + 1) left t are (omega (arith, all)) others running) words runs (wants s) refl
@@ -263,6 +275,7 @@ goes_over plan steps script start are words starts =
       last = h.last_is;
       left = h.left;
       taken = h.taken;
+      outputs = h.told;
       stop = h.stop;
     }
 
