@@ -1,5 +1,6 @@
-//! `assemble`, `disasm` and `run` once more, in plain Rust, to measure the product against. It reads what
-//! is well-formed, and ends with status 3 at anything else, with no line named.
+//! `assemble`, `disasm` and `run` once more, in plain Rust, to measure the product against. It takes for
+//! granted that what it reads is well-formed: it looks at no rule but where it would go wrong otherwise,
+//! and names no line.
 //!
 //!     plain assemble SRC IMAGE
 //!     plain disasm IMAGE

@@ -1,5 +1,6 @@
 //! `assemble` and `disasm` over a shelf and a page: worked cases, whose answers are known from outside.
 
+use std::alloc::Global;
 use std::test::Fail;
 use viper_io::{Page, Shelf};
 use viper_top::{Status, viper_main};
@@ -56,30 +57,47 @@ fn assemble_places_the_image_of_a_source(rt: HostRuntime) -> Result<(), Fail> {
     Ok(())
 }
 
-/// Which call fails, and how the assembly is answered: what is put, and what then stands under `image`.
-#[test]
-fn an_assembly_whose_place_or_put_fails_is_outside(rt: HostRuntime) -> Result<(), Fail> {
-    // the source's fetch, the place, the put => placed put
-    let mut shelf = Shelf::new(rt.alloc());
+/// A shelf whose `source` is of one word, where `image` holds `old`.
+fn shelf_of_one(alloc: Global) -> Result<Shelf, Fail> {
+    let mut shelf = Shelf::new(alloc);
     shelf.hold("source", b"00000 WORD 0000000A\n")?;
     shelf.hold("image", b"old")?;
-    shelf.fail_at(1)?;
-    let mut page = Page::new(rt.alloc());
-    let words = ["assemble", "source", "image"];
-    let status = viper_main(rt.alloc(), &words, &mut shelf, &mut page);
-    assert_eq!(rt; status, Status::Outside);
-    assert_eq!(rt; page.bytes(), b"".as_slice());
-    let mut shelf = Shelf::new(rt.alloc());
-    shelf.hold("source", b"00000 WORD 0000000A\n")?;
-    let mut page = Page::new(rt.alloc());
-    page.fail_at(0, 3)?;
-    let status = viper_main(rt.alloc(), &words, &mut shelf, &mut page);
-    assert_eq!(rt; status, Status::Outside);
-    assert_eq!(rt; page.bytes(), b"wor".as_slice());
-    assert_eq!(rt;
-        shelf.content("image"),
-        Some(b"00000 0000000A\n".as_slice())
-    );
+    Ok(shelf)
+}
+
+#[test]
+fn an_assembly_whose_place_fails_puts_nothing(rt: HostRuntime) -> Result<(), Fail> {
+    // the fetch, the place
+    for call in 0..2 {
+        let mut shelf = shelf_of_one(rt.alloc())?;
+        shelf.fail_at(call)?;
+        let mut page = Page::new(rt.alloc());
+        let words = ["assemble", "source", "image"];
+        let status = viper_main(rt.alloc(), &words, &mut shelf, &mut page);
+        assert_eq!(rt; status, Status::Outside);
+        assert_eq!(rt; page.bytes(), b"".as_slice());
+        assert_eq!(rt; shelf.content("image"), Some(b"old".as_slice()));
+    }
+    Ok(())
+}
+
+#[test]
+fn a_put_that_fails_leaves_its_first_bytes(rt: HostRuntime) -> Result<(), Fail> {
+    // words => first bytes of the text, what `image` holds then
+    let cases: [(&[&str], &str, &str); 3] = [
+        (&["assemble", "source", "image"], "wor", "00000 0000000A\n"),
+        (&["disasm", "source"], "ima", "old"),
+        (&["help"], "usa", "old"),
+    ];
+    for (words, text, image) in &cases {
+        let mut shelf = shelf_of_one(rt.alloc())?;
+        let mut page = Page::new(rt.alloc());
+        page.fail_at(0, 3)?;
+        let status = viper_main(rt.alloc(), words, &mut shelf, &mut page);
+        assert_eq!(rt; status, Status::Outside);
+        assert_eq!(rt; page.bytes(), text.as_bytes());
+        assert_eq!(rt; shelf.content("image"), Some(image.as_bytes()));
+    }
     Ok(())
 }
 

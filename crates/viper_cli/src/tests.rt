@@ -411,7 +411,8 @@ fn a_check_makes_three_fetches_and_one_put(rt: HostRuntime) -> Result<(), Fail> 
 #[test]
 fn a_content_over_its_limit_is_long(rt: HostRuntime) -> Result<(), Fail> {
     let alloc = rt.alloc();
-    let cases: [(&str, usize, &str); 3] = [
+    let cases: [(&str, usize, &str); 4] = [
+        ("image", 15_728_640, "unbuilt image\n"),
         ("image", 15_728_641, "image long\n"),
         ("plan", 1_000_000, "unbuilt plan\n"),
         ("plan", 1_000_001, "plan long\n"),

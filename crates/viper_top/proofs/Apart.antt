@@ -90,8 +90,8 @@ leads s0 s1 (Reads kind name next) (h ∷ hs) e tells each walks =
     leads_with s0 s1 kind name next h h.bytes hs e tells (λ v more. leads s0 s1 (next v) hs e tells (All-tail (IsTrue s0 s1) h hs each) more)
     (told_as s0 s1 h name (limit_of kind) walks.0 walks.1 (All-head (IsTrue s0 s1) h hs each) tells) walks.2
 
-pub settled : (o : Order) (s0 s1 : Stock) (ends : Status) (out0 out1 : Output) → s0.tells ≡ true → Answered o s0 s1 ends out0 out1 → Settled o s0 ends out0 out1
-settled o s0 s1 ends out0 out1 tells a = record { ending = a.ending; leads = leads s0 s1 (work_of o) a.given a.ending tells a.is_given.each a.walks; status = a.status; put = a.put }
+pub settled : (o : Order) (s0 s1 : Stock) (ends : Status) (out0 out1 : Output) → s0.tells ≡ true → Answered o s0 s1 ends out0 out1 → Settled o s0 s1 ends out0 out1
+settled o s0 s1 ends out0 out1 tells a = record { ending = a.ending; leads = leads s0 s1 (work_of o) a.given a.ending tells a.is_given.each a.walks; status = a.status; put = a.put; placed = a.placed }
 
 -- ---- the other statuses
 
@@ -135,7 +135,7 @@ usage_by order Outside s0 s1 out0 out1 answered outside none fine enough = absur
 pub complete_by : (order : Option Order) (o : Order) (ends : Status) (s0 s1 : Stock) (out0 out1 : Output) → (ends ≡ Usage → order ≡ None)
     → (EndsAnswered ends → OfOrder order (λ o. Answered o s0 s1 ends out0 out1))
     → (ends ≡ Outside → FailedOutside order s0 s1 out0 out1)
-    → order ≡ Some o → s0.tells ≡ true → NothingFailed s0 s1 out0 out1 → ends ≢ Memory → Settled o s0 ends out0 out1
+    → order ≡ Some o → s0.tells ≡ true → NothingFailed s0 s1 out0 out1 → ends ≢ Memory → Settled o s0 s1 ends out0 out1
 complete_by order o ends s0 s1 out0 out1 usage answered outside is tells n enough =
     settled o s0 s1 ends out0 out1 tells (of_order order o (λ o. Answered o s0 s1 ends out0 out1) is
     (answered (ends_by order ends s0 s1 out0 out1 usage outside (λ none. none-some o (sym none ∙ is)) n enough)))

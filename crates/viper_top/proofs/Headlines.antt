@@ -178,8 +178,8 @@ check_leads image plan cert stock lines certificate e g leads =
       sound = λ fault none. none.none certificate g.cert_given.is;
     }) judged
 
-pub ends_as : (image plan cert : List ℕ) (stock : Stock) (lines : PlanLines) (certificate : Certificate) (ends : Status) (out0 out1 : Output) → AreGiven image plan cert stock lines certificate
-    → Settled (Check image plan cert) stock ends out0 out1 → EndsAs (checked lines certificate) ends out0 out1
-ends_as image plan cert stock lines certificate ends out0 out1 g s =
+pub ends_as : (image plan cert : List ℕ) (stock now : Stock) (lines : PlanLines) (certificate : Certificate) (ends : Status) (out0 out1 : Output) → AreGiven image plan cert stock lines certificate
+    → Settled (Check image plan cert) stock now ends out0 out1 → EndsAs (checked lines certificate) ends out0 out1
+ends_as image plan cert stock now lines certificate ends out0 out1 g s =
     let is = check_leads image plan cert stock lines certificate s.ending g s.leads in
     subst (λ (e : Ending). EndsAs e ends out0 out1) is (record { status = s.status; put = s.put })

@@ -1,6 +1,9 @@
 -- What the endings of a run mean.
 use Rattle.std.proofs.Common.{◌≡◌, ◌≢◌, ℕ, List, [], ◌∷◌, ◌++◌, sym, ap, subst, ◌∙◌, inl, inr, ◌⊎◌}
 use Rattle.memory_plan.specs.Plans.{PlanLines}
+use Rattle.memory_plan.proofs.ImageFits.{image_fits}
+use Rattle.memory_plan.proofs.WholePlans.{plan_well}
+use Rattle.peripheral_run.proofs.Starts.{runs_of_script}
 use Rattle.viper_io.specs.Causes.{Stock, Output, Handed, Wrote}
 use Rattle.peripheral_run.specs.Scripts.{Scripted}
 use Rattle.viper_top.specs.declared.status.Status.{Status}
@@ -65,4 +68,6 @@ followed image plan script steps s0 s1 ends out0 out1 fine a =
       read = r.read;
       status = a.status ∙ ap (λ (x : Ending). x.status) r.ends;
       put = subst (λ t. Wrote out0.text t out1.text) (ap (λ (x : Ending). x.text) r.ends) a.put;
+      runs = runs_of_script r.lines r.read.script_bytes r.scripted steps
+          (plan_well r.read.words r.read.plan_bytes r.lines (image_fits r.read.image_bytes r.read.words r.read.image_is) r.read.plan_is) r.read.script_is;
     }

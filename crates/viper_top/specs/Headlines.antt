@@ -15,6 +15,9 @@ use Rattle.viper_top.specs.Endings.{Ending}
 use Rattle.memory_plan.specs.Images.{ImageWords, IsImage, image_text}
 use Rattle.memory_plan.specs.PlanText.{IsPlan}
 use Rattle.peripheral_run.specs.Scripts.{Scripted, IsScript}
+use Rattle.peripheral_run.specs.Opening.{opening}
+use Rattle.peripheral_run.specs.Runs.{run_of}
+use Rattle.peripheral_run.specs.ScriptRuns.{IsRunOver}
 use Rattle.field_asm.specs.Sources.{IsSource}
 use Rattle.disasm_view.specs.Listings.{listing}
 use Rattle.viper_top.specs.Assemble.{words_text}
@@ -103,13 +106,15 @@ pub record AreFollowed (image plan script : List ℕ) (before now : Stock) (line
   pub plan_is : IsPlan words plan_bytes lines
   pub script_is : IsScript lines script_bytes scripted
 
--- The ending and the outputs that were put are those of the machine's run over the script that was read.
+-- The ending and the outputs that were put are those of the machine's run over the script that was read, which
+-- is one of the plan's fair runs.
 pub record Followed (image plan script : List ℕ) (steps : ℕ) (before now : Stock) (ends : Status) (out_before out_now : Output) : Type 0 where
   pub lines : PlanLines
   pub scripted : Scripted
   pub read : AreFollowed image plan script before now lines scripted
   pub status : ends ≡ (ran lines scripted steps).status
   pub put : Wrote out_before.text (ran lines scripted steps).text out_now.text
+  pub runs : IsRunOver lines steps scripted.answers (opening lines scripted.state) (run_of lines steps scripted.answers (opening lines scripted.state))
 
 -- ---- assemble and disasm
 

@@ -156,12 +156,13 @@ abbrev pub Leads : (List ℕ → Option (List ℕ)) → Work Task → Ending →
 Leads holds (Does task) e = Ends task e
 Leads holds (Reads kind name next) e = (content : Option (List ℕ)) × IsContent (limit_of kind) (holds name) content × Comes kind content [] e (λ v. Leads holds (next v) e)
 
--- the command ended as those contents lead, and the text was put
-pub record Settled (order : Order) (before : Stock) (ends : Status) (out_before out_now : Output) : Type 0 where
+-- the command ended as those contents lead, the text was put, and its bytes were placed
+pub record Settled (order : Order) (before now : Stock) (ends : Status) (out_before out_now : Output) : Type 0 where
   pub ending : Ending
   pub leads : Leads before.holds (work_of order) ending
   pub status : ends ≡ ending.status
   pub put : Wrote out_before.text ending.text out_now.text
+  pub placed : IsPlaced (target_of order) ending.bytes now
 
 -- The contents that names hold lead the command to one ending.
 abbrev pub HasOneEnding : Order → Type 0

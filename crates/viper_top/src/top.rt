@@ -138,7 +138,8 @@ pub fn viper_main<S: Store, K: Sink>(
         (K.output out.old) (K.output out.new)
         → result ≢ Status.Memory
         → EndsAs (checked lines certificate) result (K.output out.old) (K.output out.new) }
-    // run, Done and Refused: the ending and the outputs put are those of the machine's run.
+    // run, Done and Refused: the ending and the outputs put are those of the machine's run, which is one
+    // of the plan's fair runs.
     ensures run_ends { (image plan script : List ℕ) → (steps : ℕ)
         → order_in words.now ≡ Some (Run image plan script steps)
         → (result ≡ Status.Done) ⊎ (result ≡ Status.Refused)
@@ -199,7 +200,8 @@ pub fn viper_main<S: Store, K: Sink>(
         → NothingFailed (S.stock store.old) (S.stock store.new)
         (K.output out.old) (K.output out.new)
         → result ≢ Status.Memory
-        → Settled order (S.stock store.old) result (K.output out.old) (K.output out.new) }
+        → Settled order (S.stock store.old) (S.stock store.new) result
+        (K.output out.old) (K.output out.new) }
 {
     answer_words(alloc, words, store, out)
 }
@@ -213,7 +215,8 @@ pub fn sure_main(alloc: Global, words: &[&str], store: &mut SureShelf, out: &mut
         → Verified image plan cert (sure_stock store.old) (sure_stock store.new)
         (sure_output out.old) (sure_output out.new) }
     ensures complete { (order : Order) → order_in words.now ≡ Some order → result ≢ Status.Memory
-        → Settled order (sure_stock store.old) result (sure_output out.old) (sure_output out.new) }
+        → Settled order (sure_stock store.old) (sure_stock store.new) result
+        (sure_output out.old) (sure_output out.new) }
     ensures usage { result ≡ Status.Usage → (order_in words.now ≡ None)
         × WroteUsage (Some out.old) (Some out.new) }
     ensures usage_where { order_in words.now ≡ None

@@ -15,7 +15,7 @@ returns-clause-check_refused g c = λ image plan cert order refused.
 
 pub returns-clause-check_complete : goal.returns-clause-check_complete
 returns-clause-check_complete g c = λ image plan cert lines certificate order given nothing enough.
-    ends_as image plan cert _ lines certificate _ _ _ given
+    ends_as image plan cert _ _ lines certificate _ _ _ given
     (complete_by _ (Check image plan cert) c.answer_words.result _ _ _ _ (λ usage. (c.answer_words.ensures.usage usage).0) c.answer_words.ensures.answered c.answer_words.ensures.outside order given.told nothing enough)
 
 pub returns-clause-run_ends : goal.returns-clause-run_ends
