@@ -20,7 +20,7 @@ bit_is zero h = refl
 bit_is (suc zero) h = refl
 bit_is (suc (suc n)) h = absurd (omega arith)
 
-fields_there : (w : ℕ) → w < 2 ^ 32 → IsFieldsOf w (fields_of w)
+pub fields_there : (w : ℕ) → w < 2 ^ 32 → IsFieldsOf w (fields_of w)
 unfolding fields_of
 fields_there w small = record {
   ranges = record { r = omega arith; m = omega arith; d = omega arith; f = omega arith; field = omega arith };

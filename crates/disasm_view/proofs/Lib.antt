@@ -2,3 +2,4 @@ pub mod Named
 pub mod Tokens
 pub mod Judged
 pub mod Assembled
+pub mod Sizes

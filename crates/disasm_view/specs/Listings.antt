@@ -27,6 +27,10 @@ fields_line at i =
 unfoldable pub source_line : ℕ → ℕ → List ℕ
 source_line at word = fields_line at (fields_of word)
 
+-- how many bytes a line has at the most, with its LF
+abbrev pub MOST_LINE : ℕ
+MOST_LINE = 28
+
 -- a line for each word, in order of addresses, each with its LF
 abbrev pub listing : ImageWords → List ℕ
 listing image = flat_map (λ e. source_line e.0 e.1 ++ codes "\n") image

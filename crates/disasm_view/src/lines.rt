@@ -1,12 +1,12 @@
 //! Words as lines of source (docs/FORMATS.md, "Listings").
 
-ghost use Rattle.std.specs.Prelude.{◌≡◌, ◌<◌, ◌++◌, codes, IfOk};
+ghost use Rattle.std.specs.Prelude.{◌≡◌, ◌<◌, ◌≤◌, ◌*◌, ◌++◌, length, codes, IfOk};
 ghost use Rattle.viper_word.specs.Fields.{fields_of};
 ghost use Rattle.viper_word.specs.Digits.{address_digits};
 ghost use Rattle.field_asm.specs.Sources.{IsSource};
 ghost use Rattle.memory_plan.specs.Images.{entries};
 ghost use Rattle.field_asm.specs.Tables.{destination_names, mode_names, register_names};
-ghost use Rattle.disasm_view.specs.Listings.{spaced, name_of, operation_name, fields_line, source_line, listing};
+ghost use Rattle.disasm_view.specs.Listings.{spaced, name_of, operation_name, fields_line, source_line, listing, MOST_LINE};
 
 use field_asm::{Names, comparisons, destinations, functions, modes, registers};
 use line_text::LineText;
@@ -114,10 +114,11 @@ fn lines_of(alloc: Global, words: &[(Addr, Word)]) -> Result<Vec<u8>, Memory>
 }
 
 /// The listing of an image: a line of source for each word, in order of addresses, each with its LF.
-/// It is a source of the image, so assembling it gives the image again.
+/// It is a source of the image, so assembling it gives the image again. A line has 28 bytes at the most.
 pub fn listing(alloc: Global, image: &Image) -> Result<Vec<u8>, Memory>
     ensures text { IfOk result (λ text. text.items ≡ listing image.now) }
     ensures source { IfOk result (λ text. IsSource text.items image.now) }
+    ensures size { IfOk result (λ text. length text.items ≤ MOST_LINE * length image.now) }
 {
     lines_of(alloc, image.words())
 }

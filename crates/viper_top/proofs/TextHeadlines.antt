@@ -1,7 +1,8 @@
 -- What Done means of an assembly and of a listing.
-use Rattle.std.proofs.Common.{◌≡◌, ℕ, List, ◌∷◌, ◌++◌, Some, ap, subst, ◌∙◌}
+use Rattle.std.proofs.Common.{◌≡◌, ℕ, List, ◌∷◌, ◌++◌, Some, ap, subst, ◌∙◌, arith}
 use Rattle.memory_plan.proofs.ImageFits.{image_fits}
 use Rattle.disasm_view.proofs.Assembled.{listing_is_source}
+use Rattle.disasm_view.proofs.Sizes.{listing_size}
 use Rattle.viper_io.specs.Causes.{Stock, Output, Handed, Wrote}
 use Rattle.viper_top.specs.declared.status.Status.TheVariants.{Done, Input}
 use Rattle.viper_top.specs.Endings.{Ending}
@@ -55,9 +56,11 @@ pub listed_image : (image : List ℕ) (s0 s1 : Stock) (out0 out1 : Output) → A
 listed_image image s0 s1 out0 out1 a =
     let r = one_read WholeImage image Lists s0 s1 a.given a.ending a.is_given (λ other. done_is_not_input (a.status ∙ other)) a.walks in
     let is : a.ending ≡ listed r.value = r.ends in
+    let image_is = image_fits r.read.bytes r.value r.read.is in
     record {
       words = r.value;
       read = r.read;
       put = subst (λ (e : Ending). Wrote out0.text e.text out1.text) is a.put;
-      assembles = listing_is_source r.value (image_fits r.read.bytes r.value r.read.is);
+      assembles = listing_is_source r.value image_is;
+      short = let size = (listing_size r.value image_is).1 in omega (arith, size);
     }

@@ -134,9 +134,10 @@ pub record Assembled (source image : List ℕ) (before now : Stock) (out_before 
   pub placed : HoldsWhereTold now.tells (now.holds image) (image_text words)
   pub put : Wrote out_before.text (words_text words) out_now.text
 
--- Done: what was read is an image, whose listing was put, which is a source of that image.
+-- Done: what was read is an image, whose listing was put, which is a source of that image within the limit of one.
 pub record Listed (image : List ℕ) (before now : Stock) (out_before out_now : Output) : Type 0 where
   pub words : ImageWords
   pub read : IsOnlyRead WholeImage image before now words
   pub put : Wrote out_before.text (listing words) out_now.text
   pub assembles : IsSource (listing words) words
+  pub short : length (listing words) ≤ limit_of Source
