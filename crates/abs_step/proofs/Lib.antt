@@ -1,5 +1,7 @@
 pub mod Performing
 pub mod AddressLaws
+pub mod PointLaws
+pub mod SearchLaws
 pub mod WriteLaws
 pub mod ResultLaws
 pub mod OutcomeLaws

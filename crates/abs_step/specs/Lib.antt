@@ -6,6 +6,7 @@ pub mod OutcomeLists
 pub mod Stores
 pub mod Outcomes
 pub mod Conditions
+pub mod Walks
 pub mod Laws
 pub mod Posts
 pub mod States

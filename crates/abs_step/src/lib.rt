@@ -3,8 +3,11 @@
 //! docs/METHOD.md, "Outcomes" and "Conditions", has the rules in words.
 #![tactic(auto)]
 
+mod addresses;
 mod laws;
+mod operands;
 mod outcome;
+mod points;
 mod starting;
 
 pub use laws::step_laws;
