@@ -27,3 +27,4 @@ pub mod StepTheorem
 pub mod StartMet
 pub mod AllStepLaws
 pub mod CellWrites
+pub mod LinkLimits

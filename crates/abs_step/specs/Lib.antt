@@ -9,6 +9,7 @@ pub mod Conditions
 pub mod Walks
 pub mod Laws
 pub mod Posts
+pub mod Limits
 pub mod States
 pub mod Starts
 pub mod StepLaws

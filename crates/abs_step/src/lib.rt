@@ -6,8 +6,10 @@
 mod addresses;
 mod laws;
 mod operands;
+mod origins;
 mod outcome;
 mod points;
+mod results;
 mod starting;
 
 pub use laws::step_laws;
