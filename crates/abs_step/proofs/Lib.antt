@@ -28,3 +28,5 @@ pub mod StartMet
 pub mod AllStepLaws
 pub mod CellWrites
 pub mod LinkLimits
+pub mod EndTests
+pub mod FaultSteps

@@ -96,11 +96,11 @@ found_ends None q = None
 found_ends (Some lo) None = None
 found_ends (Some lo) (Some hi) = cond (int_le lo hi) (Some (lo, hi)) None
 
-abbrev low_of : Option (ℤ × ℤ) → ℤ
+abbrev pub low_of : Option (ℤ × ℤ) → ℤ
 low_of None = pos 0
 low_of (Some e) = e.0
 
-abbrev high_of : Option (ℤ × ℤ) → ℤ
+abbrev pub high_of : Option (ℤ × ℤ) → ℤ
 high_of None = pos 0
 high_of (Some e) = e.1
 

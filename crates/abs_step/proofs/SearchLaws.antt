@@ -9,7 +9,7 @@ use Rattle.viper_word.specs.Ranges.{NumberRange}
 use Rattle.memory_plan.specs.Ranges.{Span}
 use Rattle.memory_plan.specs.Plans.{PlanLines, has_address, range_at, in_code, has_code, word_at}
 use Rattle.num_domain.specs.Domain.{Domain}
-use Rattle.abs_step.specs.Addresses.{any_from, in_spans, passes_at, some_passes}
+use Rattle.abs_step.specs.Addresses.{any_from, passing, in_spans, passes_at, some_passes}
 use Rattle.abs_step.specs.Results.{in_memory, or_value, join_all, word_source, words_from}
 use Rattle.abs_step.specs.Walks.{first_from, is_found, Stretch, IsStretch, SameRange, IsRun}
 use Rattle.abs_step.proofs.AddressLaws.{any_from_at}
@@ -137,6 +137,58 @@ one_allowed p a at to m n o e s h =
 
 pub past : (p : ℕ → Bool) (at to : ℕ) → to ≤ at → any_from p at (to - at) ≡ false
 past p at to h = any_none p at (to - at) (λ k i j. absurd (omega arith))
+
+-- ---- those that pass
+
+pub passing_none : (p : ℕ → Bool) (at n : ℕ) → ((k : ℕ) → at ≤ k → k < at + n → p k ≡ false) → passing p at n ≡ []
+unfolding passing
+passing_none p at zero f = refl
+passing_none p at (suc n) f =
+    ap (λ (b : Bool). cond b (at ∷ passing p (suc at) n) (passing p (suc at) n)) (f at (omega arith) (omega arith))
+    ∙ passing_none p (suc at) n (λ k i j. f k (omega arith) (omega arith))
+
+pub passing_skip : (p : ℕ → Bool) (j at n : ℕ) → ((k : ℕ) → at ≤ k → k < at + j → p k ≡ false) → passing p at (j + n) ≡ passing p (at + j) n
+unfolding passing
+passing_skip p zero at n f = ap₂ (passing p) (omega arith) (omega arith)
+passing_skip p (suc j) at n f =
+    let e : suc j + n ≡ suc (j + n) = omega arith in
+    let g : suc at + j ≡ at + suc j = omega arith in
+    ap (passing p at) e
+    ∙ ap (λ (b : Bool). cond b (at ∷ passing p (suc at) (j + n)) (passing p (suc at) (j + n))) (f at (omega arith) (omega arith))
+    ∙ passing_skip p j (suc at) n (λ k i l. f k (omega arith) (omega arith))
+    ∙ ap (λ (m : ℕ). passing p m n) g
+
+pub passing_here : (p : ℕ → Bool) (at n : ℕ) → p at ≡ true → passing p at (suc n) ≡ at ∷ passing p (suc at) n
+unfolding passing
+passing_here p at n h = ap (λ (b : Bool). cond b (at ∷ passing p (suc at) n) (passing p (suc at) n)) h
+
+pub passing_end : (p : ℕ → Bool) (at n : ℕ) → first_from p at n ≡ None → passing p at n ≡ []
+passing_end p at n e = passing_none p at n (λ k i j. first_nothing p at n e k i j)
+
+pub passing_over : (p : ℕ → Bool) (at to : ℕ) → to ≤ at → passing p at (to - at) ≡ []
+passing_over p at to h = passing_none p at (to - at) (λ k i j. absurd (omega arith))
+
+-- the first that passes, and those after it
+pub passing_on : (p : ℕ → Bool) (at to m n : ℕ) → at ≤ to → first_from p at (to - at) ≡ Some m → n ≡ m → passing p at (to - at) ≡ m ∷ passing p (n + 1) (to - (n + 1))
+passing_on p at to m n o e s =
+    let f = first_some p at (to - at) m e in
+    let u = f.up in
+    let w = f.below in
+    let a : to - at ≡ (m - at) + suc (to - (n + 1)) = omega arith in
+    let b : at + (m - at) ≡ m = omega arith in
+    let c : suc m ≡ n + 1 = omega arith in
+    ap (passing p at) a
+    ∙ passing_skip p (m - at) at (suc (to - (n + 1))) (λ k i j. f.before k i (omega arith))
+    ∙ ap (λ (l : ℕ). passing p l (suc (to - (n + 1)))) b
+    ∙ passing_here p m (to - (n + 1)) f.holds
+    ∙ ap (λ (l : ℕ). m ∷ passing p l (to - (n + 1))) c
+
+-- ---- tests that agree
+
+pub first_same : (p q : ℕ → Bool) (at n : ℕ) → ((k : ℕ) → p k ≡ q k) → first_from p at n ≡ first_from q at n
+unfolding first_from
+first_same p q at zero f = refl
+first_same p q at (suc n) f = ap₂ (λ (b : Bool) (o : Option ℕ). cond b (Some at) o) (f at) (first_same p q (suc at) n f)
 
 -- ---- words that were found
 

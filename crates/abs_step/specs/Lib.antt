@@ -7,6 +7,7 @@ pub mod Stores
 pub mod Outcomes
 pub mod Conditions
 pub mod Walks
+pub mod Faults
 pub mod Laws
 pub mod Posts
 pub mod Limits

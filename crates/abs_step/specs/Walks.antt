@@ -38,6 +38,10 @@ pub record Stretch (p : ℕ → Bool) (n last : ℕ) : Type 0 where
   pub small : last < 2 ^ 20
   pub each : (k : ℕ) → n ≤ k → k ≤ last → p k ≡ true
 
+-- is the address a point?
+abbrev pub is_point_at : {T : Type 0} → Domain T → T → ℕ → Bool
+is_point_at d v n = is_point d v (pos n)
+
 -- The address doesn't pass, or each one from it up to the one that is named.
 abbrev pub IsStretch : (ℕ → Bool) → ℕ → Option ℕ → Type 0
 IsStretch p n None = p n ≡ false

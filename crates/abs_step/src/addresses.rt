@@ -11,15 +11,12 @@ ghost use Rattle.abs_step.specs.Results.{addressed, ends_within, in_memory};
 ghost use Rattle.abs_step.specs.Conditions.{in_range, each_address};
 ghost use Rattle.abs_step.specs.Walks.{first_from, is_found, IsStretch, IsRun, allows, refuses};
 
-use crate::points::{ends_of, first_point};
+use crate::points::{COUNT, ends_lie, first_point};
 use flag_relation::Fact;
 use memory_plan::{Plan, Range};
 use num_domain::NumDomain;
 use viper_decode::Place;
 use viper_word::Addr;
-
-/// How many addresses there are.
-const COUNT: u32 = Addr::LAST + 1;
 
 /// What is done at an address.
 #[derive(Drop)]
@@ -156,28 +153,6 @@ fn run_up_to(spans: &[(Addr, Addr, Range)], at: Addr, last: u32) -> Option<(Rang
     }
 }
 
-/// A signed word plus the base.
-fn moved(base: u32, n: i64) -> i64
-    requires base { base < 2 ^ 20 }
-    requires signed { IsSigned n }
-    ensures { result ≡ (pos base +ℤ n) }
-{
-    i64::from(base) + n
-}
-
-/// Do the ends, moved by the base, lie from `lo` to `hi`? Without ends they do.
-pub(crate) fn ends_lie<D: NumDomain>(v: &D, base: u32, lo: i64, hi: i64) -> bool
-    requires { base < 2 ^ 20 }
-    ensures { result ≡ ends_within (ends D.domain v.now) (pos base) lo hi }
-{
-    match ends_of(v) {
-        None => true,
-        Some((least, greatest)) => {
-            lo <= moved(base, least) && moved(base, greatest) <= hi
-        }
-    }
-}
-
 /// Does the range have one number, or is the value on its steps?
 fn is_on_steps<D: NumDomain>(v: &D, range: &Range) -> bool
     ensures { result ≡ (int_eq range.now.lo range.now.hi
@@ -253,7 +228,7 @@ pub(crate) fn each_address<D: NumDomain>(
     match place {
         Place::At(a) => end_of(plan, what, *a).is_some(),
         Place::Index(a, r) => {
-            ends_lie(&fact.reg(*r), a.get(), 0, i64::from(Addr::LAST))
+            ends_lie(&fact.reg(*r), i64::from(a.get()), 0, i64::from(Addr::LAST))
                 && is_allowed(plan, what, place, fact)
         }
     }

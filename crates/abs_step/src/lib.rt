@@ -4,6 +4,8 @@
 #![tactic(auto)]
 
 mod addresses;
+mod conditions;
+mod faults;
 mod laws;
 mod operands;
 mod origins;

@@ -1,7 +1,7 @@
 use flag_relation::Var;
 
 /// How many targets a jump may have at the most.
-const MOST_TARGETS: usize = 64;
+pub(crate) const MOST_TARGETS: usize = 64;
 
 /// A local condition, of a cell (H1), of a start line (H2), or of a node: C1 to C7 of one instruction,
 /// C8 to C11 of a node with its successors and rank. docs/METHOD.md, "Conditions".

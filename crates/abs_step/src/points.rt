@@ -3,10 +3,14 @@
 ghost use Rattle.std.specs.Prelude.{◌≡◌, ◌<◌, ◌≤◌, ◌-◌, ◌^◌, ◌≤ℤ◌, ◌+ℤ◌, ◌-ℤ◌, pos, IfSome};
 ghost use Rattle.viper_word.specs.Words.{IsSigned};
 ghost use Rattle.num_domain.specs.Ends.{ends};
-ghost use Rattle.abs_step.specs.Walks.{both, first_from, is_moved_point};
+ghost use Rattle.abs_step.specs.Results.{ends_within};
+ghost use Rattle.abs_step.specs.Walks.{both, first_from, is_moved_point, is_point_at};
 
 use num_domain::NumDomain;
-use viper_word::{GREATEST_SIGNED, LEAST_SIGNED};
+use viper_word::{Addr, GREATEST_SIGNED, LEAST_SIGNED};
+
+/// How many addresses there are.
+pub(crate) const COUNT: u32 = Addr::LAST + 1;
 
 /// The number from `n` on below which there is no member, with what every domain says of it.
 fn least_from<D: NumDomain>(v: &D, n: i64) -> Option<i64>
@@ -86,4 +90,34 @@ pub(crate) fn first_point<D: NumDomain>(v: &D, base: u32, from: u32, to: u32) ->
         at = place;
     }
     None
+}
+
+/// The sum of two signed words.
+pub(crate) fn sum(a: i64, b: i64) -> i64
+    requires first { IsSigned a }
+    requires second { IsSigned b }
+    ensures { result ≡ (a +ℤ b) }
+{
+    a + b
+}
+
+/// Do the ends, moved by the base, lie from `lo` to `hi`? Without ends they do.
+pub(crate) fn ends_lie<D: NumDomain>(v: &D, base: i64, lo: i64, hi: i64) -> bool
+    requires { IsSigned base }
+    ensures { result ≡ ends_within (ends D.domain v.now) base lo hi }
+{
+    match ends_of(v) {
+        None => true,
+        Some((least, greatest)) => lo <= sum(base, least) && sum(base, greatest) <= hi,
+    }
+}
+
+/// The first address from `from` on that is a point of the value.
+pub(crate) fn next_point<D: NumDomain>(v: &D, from: u32) -> Option<Addr>
+    ensures { result ≡ first_from (is_point_at D.domain v.now) from (2 ^ 20 - from) }
+{
+    match first_point(v, 0, from, COUNT) {
+        None => None,
+        Some(n) => Addr::new(n),
+    }
 }
