@@ -30,3 +30,4 @@ pub mod CellWrites
 pub mod LinkLimits
 pub mod EndTests
 pub mod FaultSteps
+pub mod PlaceLaws

@@ -6,6 +6,7 @@ pub mod OutcomeLists
 pub mod Stores
 pub mod Outcomes
 pub mod Conditions
+pub mod Places
 pub mod Walks
 pub mod Faults
 pub mod Laws

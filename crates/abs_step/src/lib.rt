@@ -11,9 +11,14 @@ mod operands;
 mod origins;
 mod outcome;
 mod points;
+mod posts;
 mod results;
+mod scratch;
 mod starting;
+mod writes;
+mod written;
 
 pub use laws::step_laws;
-pub use outcome::{Cond, Post};
+pub use outcome::{Cond, Outcome, Post};
+pub use posts::Posts;
 pub use starting::start_fact;
