@@ -31,3 +31,6 @@ pub mod LinkLimits
 pub mod EndTests
 pub mod FaultSteps
 pub mod PlaceLaws
+pub mod TargetLaws
+pub mod SpotLaws
+pub mod JumpRoom

@@ -82,7 +82,7 @@ and_false : (x y : Bool) → y ≡ false → (x && y) ≡ false
 and_false true y h = h
 and_false false y h = refl
 
-int_same : (x : ℤ) → int_eq x x ≡ true
+pub int_same : (x : ℤ) → int_eq x x ≡ true
 int_same x = grind (arith, ints)
 
 when_both : (lo hi : ℤ) (b : Bool) (e : int_le lo hi ≡ b) → both (ends_when lo hi b e) ≡ cond b (Some (lo, hi)) None

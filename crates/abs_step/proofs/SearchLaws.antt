@@ -86,7 +86,7 @@ any_none p at n f = any_is_first p at n ∙ ap is_found (first_none p at n f)
 pub any_on : (p : ℕ → Bool) (at at' to : ℕ) → at ≤ at' → at' ≤ to → ((k : ℕ) → at ≤ k → k < at' → p k ≡ false) → any_from p at (to - at) ≡ any_from p at' (to - at')
 any_on p at at' to h h' f = any_is_first p at (to - at) ∙ ap is_found (first_on p at at' to h h' f) ∙ sym (any_is_first p at' (to - at'))
 
-and_first : (x y : Bool) → x ≡ false → (x && y) ≡ false
+pub and_first : (x y : Bool) → x ≡ false → (x && y) ≡ false
 and_first true y h = absurd (cc)
 and_first false y h = refl
 
@@ -157,6 +157,10 @@ passing_skip p (suc j) at n f =
     ∙ ap (λ (b : Bool). cond b (at ∷ passing p (suc at) (j + n)) (passing p (suc at) (j + n))) (f at (omega arith) (omega arith))
     ∙ passing_skip p j (suc at) n (λ k i l. f k (omega arith) (omega arith))
     ∙ ap (λ (m : ℕ). passing p m n) g
+
+pub passing_one : (p : ℕ → Bool) (at n : ℕ) → passing p at (suc n) ≡ cond (p at) (at ∷ passing p (suc at) n) (passing p (suc at) n)
+unfolding passing
+passing_one p at n = refl
 
 pub passing_here : (p : ℕ → Bool) (at n : ℕ) → p at ≡ true → passing p at (suc n) ≡ at ∷ passing p (suc at) n
 unfolding passing

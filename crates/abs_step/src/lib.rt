@@ -5,15 +5,20 @@
 
 mod addresses;
 mod conditions;
+mod draft;
 mod faults;
+mod jumps;
 mod laws;
 mod operands;
 mod origins;
 mod outcome;
+mod making;
 mod points;
 mod posts;
 mod results;
 mod scratch;
+mod several;
+mod spots;
 mod starting;
 mod writes;
 mod written;

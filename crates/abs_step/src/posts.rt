@@ -1,10 +1,12 @@
 //! What an instruction does to each register and each cell.
 
-ghost use Rattle.std.specs.Prelude.{◌≡◌, ◌<◌, length};
+ghost use Rattle.std.specs.Prelude.{◌≡◌, ◌<◌, length, map};
+ghost use Rattle.abs_step.specs.declared.outcome.Post.TheVariants.{Same};
 
 use crate::Post;
 use flag_relation::Reg;
 use std::marker::Model;
+use viper_word::Addr;
 
 /// What an instruction does to A, X, Y and each cell. docs/METHOD.md, "Outcomes".
 #[derive(Drop)]
@@ -27,8 +29,34 @@ impl Model for Posts {
     } };
 }
 
+/// Says of each cell that it stays.
+fn stay(cells: &[Addr], posts: &mut [Post])
+    requires { length cells.now ≡ length posts.old }
+    ensures posts { posts.new ≡ map (λ _. Same) cells.now }
+    ensures count { length posts.new ≡ length cells.now }
+{
+    let mut at = 0;
+    while at < posts.len() {
+        posts[at] = Post::Same;
+        at += 1;
+    }
+}
+
 impl Posts {
     ghost use Rattle.flag_relation.specs.Values.{with_reg, with_cell};
+    ghost use Rattle.abs_step.specs.OutcomeLists.{all_same};
+
+    /// Says of each variable that it stays.
+    pub(crate) fn stay(&mut self, cells: &[Addr])
+        requires { length cells.now ≡ length self.old.cells }
+        ensures posts { self.new ≡ all_same cells.now }
+        ensures count { length self.new.cells ≡ length cells.now }
+    {
+        self.a = Post::Same;
+        self.x = Post::Same;
+        self.y = Post::Same;
+        stay(cells, self.cells.as_mut_slice());
+    }
 
     /// Takes over what the other says. It has as many cells.
     pub(crate) fn copy_from(&mut self, other: &Posts)
