@@ -9,8 +9,6 @@ use Rattle.flag_relation.specs.Facts.{FactOf}
 use Rattle.viper_decode.specs.Instructions.{instruction_of}
 use Rattle.viper_decode.specs.declared.instructions.Instruction.{Instruction}
 use Rattle.abs_step.specs.Conditions.{side_keeps, instruction_keeps, keeps, fault, unless, is_some, if_there, if_legal, word_fields}
-use Rattle.abs_step.specs.OutcomeLists.{live}
-use Rattle.abs_step.specs.Outcomes.{taken_side}
 use Rattle.abs_step.specs.Faults.{side_fault, fault_of, live_side}
 use Rattle.abs_step.specs.declared.outcome.Cond.{Cond}
 use Rattle.abs_step.specs.declared.outcome.Cond.TheVariants.{C1, C2, C3, C4, C5, C6, C7}

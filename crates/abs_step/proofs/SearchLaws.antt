@@ -1,17 +1,14 @@
 -- What a search for the first address that passes says of tests and of joins over the addresses it leaves out.
-use Rattle.std.specs.Prelude.{◌≡◌, ℕ, ◌+◌, ◌-◌, ◌<◌, ◌≤◌, ◌^◌, Bool, true, false, not, ◌&&◌, ◌||◌, cond, nat_eq, nat_le, List, [], ◌∷◌, Option, Some, None, IfSome}
-use Rattle.std.specs.List.{list_any}
+use Rattle.std.specs.Prelude.{◌≡◌, ℕ, ◌+◌, ◌-◌, ◌<◌, ◌≤◌, Bool, true, false, not, ◌&&◌, cond, nat_eq, nat_le, [], ◌∷◌, Option, Some, None}
 use Rattle.std.proofs.Common.{refl, arith, zero, suc, sym, subst, ◌∙◌, ap}
 use Rattle.std.proofs.Math.Path.{ap₂}
-use Rattle.std.proofs.lemmas.Bool.{false≢true, and_parts, and_from}
+use Rattle.std.proofs.lemmas.Bool.{false≢true}
 use Rattle.std.proofs.lemmas.Bool.Decides.{nat_tests}
-use Rattle.viper_word.specs.Ranges.{NumberRange}
-use Rattle.memory_plan.specs.Ranges.{Span}
-use Rattle.memory_plan.specs.Plans.{PlanLines, has_address, range_at, in_code, has_code, word_at}
+use Rattle.memory_plan.specs.Plans.{PlanLines, word_at}
 use Rattle.num_domain.specs.Domain.{Domain}
-use Rattle.abs_step.specs.Addresses.{any_from, passing, in_spans, passes_at, some_passes}
-use Rattle.abs_step.specs.Results.{in_memory, or_value, join_all, word_source, words_from}
-use Rattle.abs_step.specs.Walks.{first_from, is_found, Stretch, IsStretch, SameRange, IsRun}
+use Rattle.abs_step.specs.Addresses.{any_from, passing}
+use Rattle.abs_step.specs.Results.{or_value, join_all, word_source, words_from}
+use Rattle.abs_step.specs.Walks.{first_from, is_found}
 use Rattle.abs_step.proofs.AddressLaws.{any_from_at}
 use Rattle.abs_step.proofs.PointLaws.{first_none, first_on, first_here, any_is_first}
 

@@ -1,5 +1,5 @@
 -- The one address of an indexed place, as code finds it.
-use Rattle.std.specs.Prelude.{◌≡◌, ℕ, ◌^◌, ◌-◌, ℤ, pos, ◌-ℤ◌, ◌+ℤ◌, ◌≤ℤ◌, int_le, nat_abs, Bool, true, false, ◌&&◌, cond, Option, Some, None}
+use Rattle.std.specs.Prelude.{◌≡◌, ℕ, ◌^◌, ◌-◌, ℤ, pos, ◌-ℤ◌, ◌+ℤ◌, int_le, nat_abs, Bool, true, false, ◌&&◌, cond, Option, Some, None}
 use Rattle.std.specs.Ordering.{int_eq}
 use Rattle.std.proofs.Common.{refl, arith, sym, ◌∙◌, ap}
 use Rattle.std.proofs.lemmas.Int.{ints}

@@ -1,6 +1,6 @@
 -- What code asks of spans of addresses on the way, of which no public clause speaks: the first address that
 -- passes, stretches of addresses that all pass, and ends as two numbers.
-use Rattle.std.specs.Prelude.{◌≡◌, ℕ, ◌<◌, ◌≤◌, ◌+◌, ◌^◌, ℤ, pos, ◌-ℤ◌, ◌+ℤ◌, int_le, Bool, true, false, not, ◌&&◌, cond, List, Option, Some, None}
+use Rattle.std.specs.Prelude.{◌≡◌, ℕ, ◌<◌, ◌≤◌, ◌^◌, ℤ, pos, ◌-ℤ◌, Bool, true, false, not, ◌&&◌, cond, List, Option, Some, None}
 use Rattle.std.proofs.Common.{zero, suc}
 use Rattle.viper_word.specs.Ranges.{NumberRange}
 use Rattle.num_domain.specs.Domain.{Domain}

@@ -9,12 +9,12 @@ ghost use Rattle.abs_step.specs.Conditions.{function_exact, move_exact, ends_of,
 ghost use Rattle.abs_step.specs.Walks.{is_point_at};
 ghost use Rattle.abs_step.specs.declared.outcome.TheConstants.{MOST_TARGETS};
 
+use crate::Cond;
 use crate::addresses::{Use, each_address};
 use crate::operands::operand_value;
 use crate::outcome::MOST_TARGETS;
 use crate::points::{COUNT, ends_lie, ends_of, next_point, sum};
 use crate::results::{result_value, source_value};
-use crate::Cond;
 use flag_relation::Fact;
 use memory_plan::Plan;
 use num_domain::NumDomain;
@@ -73,7 +73,12 @@ pub(crate) fn keeps_c6<D: NumDomain>(
         Instruction::Jump(_, _) => true,
         Instruction::Output(_, _) => true,
         Instruction::Store(source, place) => {
-            each_address(plan, &Use::Store(source_value(at, fact, *source)), place, fact)
+            each_address(
+                plan,
+                &Use::Store(source_value(at, fact, *source)),
+                place,
+                fact,
+            )
         }
     }
 }
@@ -93,7 +98,12 @@ pub(crate) fn keeps_c7<D: NumDomain>(
         Instruction::Assign(_, _) => true,
         Instruction::Jump(_, _) => true,
         Instruction::Output(source, place) => {
-            each_address(plan, &Use::Output(source_value(at, fact, *source)), place, fact)
+            each_address(
+                plan,
+                &Use::Output(source_value(at, fact, *source)),
+                place,
+                fact,
+            )
         }
         Instruction::Store(_, _) => true,
     }

@@ -29,8 +29,10 @@ fn keep_target<D: NumDomain>(
     requires pre { length pre.now.cells ≡ places.old.cells }
     requires after { length after.now.cells ≡ places.old.cells }
     requires posts { length posts.now.cells ≡ places.old.cells }
-    ensures { places.new ≡ record places.old { outcomes = places.old.outcomes
-        ++ cond (in_code plan.now target) (outcome D.domain target pre.now after.now posts.now) [] } }
+    ensures { places.new ≡ record places.old {
+      outcomes = places.old.outcomes
+          ++ cond (in_code plan.now target) (outcome D.domain target pre.now after.now posts.now) [];
+    } }
 {
     if plan.in_code(target) {
         places.keep(target, pre, after, posts);
@@ -51,9 +53,11 @@ pub(crate) fn keep_targets<D: NumDomain>(
     requires pre { length pre.now.cells ≡ places.old.cells }
     requires after { length after.now.cells ≡ places.old.cells }
     requires posts { length posts.now.cells ≡ places.old.cells }
-    ensures { places.new ≡ record places.old { outcomes = places.old.outcomes
-        ++ flat_map (λ n. outcome D.domain n pre.now after.now posts.now)
-        (passing (is_target D.domain plan.now v.now) 0 (2 ^ 20)) } }
+    ensures { places.new ≡ record places.old {
+      outcomes = places.old.outcomes
+          ++ flat_map (λ n. outcome D.domain n pre.now after.now posts.now)
+          (passing (is_target D.domain plan.now v.now) 0 (2 ^ 20));
+    } }
 {
     let mut at = 0;
     while at < COUNT {

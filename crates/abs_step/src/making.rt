@@ -11,19 +11,19 @@ ghost use Rattle.abs_step.specs.Stores.{source_post, spot, store_one, store_one_
 ghost use Rattle.abs_step.specs.declared.outcome.TheConstants.{MOST_TARGETS};
 ghost use Rattle.viper_decode.specs.declared.instructions.Instruction.TheVariants.{Compare, Assign, Jump, Output};
 
+use crate::Post;
 use crate::addresses::may_meet;
 use crate::draft::Draft;
+use crate::jumps::keep_targets;
 use crate::operands::operand_value;
 use crate::origins::{find_cell, flag_after, origin};
 use crate::points::COUNT;
-use crate::jumps::keep_targets;
 use crate::posts::Posts;
 use crate::results::{is_call, result_value};
 use crate::scratch::Places;
 use crate::several::{several_posts, store_several};
 use crate::spots::{has_several, one_address};
 use crate::written::{assign, link_call, store_one};
-use crate::Post;
 use flag_relation::{Fact, Reg, Var};
 use memory_plan::Plan;
 use num_domain::NumDomain;
@@ -57,8 +57,10 @@ fn compare<D: NumDomain>(
     requires places { places.old.cells ≡ length side.now.cells }
     requires room { length places.old.outcomes < places.old.room }
     requires next { at + 1 < 2 ^ 20 }
-    ensures outcomes { places.new ≡ record places.old { outcomes = places.old.outcomes
-        ++ performed D.domain plan.now cells.now at (Compare joins kind source operand.now) side.now } }
+    ensures outcomes { places.new ≡ record places.old {
+      outcomes = places.old.outcomes
+          ++ performed D.domain plan.now cells.now at (Compare joins kind source operand.now) side.now;
+    } }
     ensures draft { draft.new ≡ draft.old }
 {
     if operand_value(plan, cells, side, operand).is_none() {
@@ -87,8 +89,10 @@ fn assign_to<D: NumDomain>(
     requires places { places.old.cells ≡ length side.now.cells }
     requires room { length places.old.outcomes < places.old.room }
     requires next { at + 1 < 2 ^ 20 }
-    ensures outcomes { places.new ≡ record places.old { outcomes = places.old.outcomes
-        ++ performed D.domain plan.now cells.now at (Assign to work.now) side.now } }
+    ensures outcomes { places.new ≡ record places.old {
+      outcomes = places.old.outcomes
+          ++ performed D.domain plan.now cells.now at (Assign to work.now) side.now;
+    } }
     ensures draft { draft.new ≡ draft.old }
 {
     let _count = side.count();
@@ -119,8 +123,10 @@ fn put_out<D: NumDomain>(
     requires places { places.old.cells ≡ length side.now.cells }
     requires room { length places.old.outcomes < places.old.room }
     requires next { at + 1 < 2 ^ 20 }
-    ensures outcomes { places.new ≡ record places.old { outcomes = places.old.outcomes
-        ++ performed D.domain plan.now cells.now at (Output source place.now) side.now } }
+    ensures outcomes { places.new ≡ record places.old {
+      outcomes = places.old.outcomes
+          ++ performed D.domain plan.now cells.now at (Output source place.now) side.now;
+    } }
     ensures draft { draft.new ≡ draft.old }
 {
     if !may_meet(place, side, 0, COUNT) {
@@ -161,8 +167,10 @@ fn jump<D: NumDomain>(
     requires next { at + 1 < 2 ^ 20 }
     requires targets { targets_lawful D.domain plan.now (result_value D.domain
         plan.now cells.now at (values side.now) side.now.flag work.now) ≡ true }
-    ensures outcomes { places.new ≡ record places.old { outcomes = places.old.outcomes
-        ++ performed D.domain plan.now cells.now at (Jump when work.now) side.now } }
+    ensures outcomes { places.new ≡ record places.old {
+      outcomes = places.old.outcomes
+          ++ performed D.domain plan.now cells.now at (Jump when work.now) side.now;
+    } }
     ensures draft { draft.new ≡ draft.old }
 {
     let Some(target) = result_value(plan, cells, at, side, work) else {
@@ -185,12 +193,7 @@ fn source_post<D: NumDomain>(source: Source) -> Post
 }
 
 /// Says what a store at one address does.
-fn store_posts<D: NumDomain>(
-    cells: &[Addr],
-    source: Source,
-    cell: Option<u8>,
-    posts: &mut Posts,
-)
+fn store_posts<D: NumDomain>(cells: &[Addr], source: Source, cell: Option<u8>, posts: &mut Posts)
     requires count { length cells.now ≡ length posts.old.cells }
     requires cell { IfSome cell (λ i. i < length posts.old.cells) }
     ensures posts { posts.new ≡ store_one_posts D.domain cells.now source cell }
@@ -217,11 +220,13 @@ fn store_at_one<D: NumDomain>(
     requires places { places.old.cells ≡ length side.now.cells }
     requires room { length places.old.outcomes < places.old.room }
     requires next { at + 1 < 2 ^ 20 }
-    ensures outcomes { places.new ≡ record places.old { outcomes = places.old.outcomes
-        ++ each (spot D.domain place.now (values side.now)).one
-        (λ n. outcome D.domain (at + 1) side.now
-        (store_one D.domain at side.now source (find_cell cells.now n))
-        (store_one_posts D.domain cells.now source (find_cell cells.now n))) } }
+    ensures outcomes { places.new ≡ record places.old {
+      outcomes = places.old.outcomes
+          ++ each (spot D.domain place.now (values side.now)).one
+          (λ n. outcome D.domain (at + 1) side.now
+          (store_one D.domain at side.now source (find_cell cells.now n))
+          (store_one_posts D.domain cells.now source (find_cell cells.now n)));
+    } }
     ensures draft { draft.new ≡ draft.old }
 {
     let _count = side.count();
@@ -250,10 +255,12 @@ fn store_at_several<D: NumDomain>(
     requires places { places.old.cells ≡ length side.now.cells }
     requires room { length places.old.outcomes < places.old.room }
     requires next { at + 1 < 2 ^ 20 }
-    ensures outcomes { places.new ≡ record places.old { outcomes = places.old.outcomes
-        ++ cond (spot D.domain place.now (values side.now)).several (outcome D.domain (at + 1) side.now
-        (store_several D.domain (addressed D.domain place.now (values side.now)) cells.now at side.now source)
-        (store_several_posts D.domain (addressed D.domain place.now (values side.now)) cells.now)) [] } }
+    ensures outcomes { places.new ≡ record places.old {
+      outcomes = places.old.outcomes
+          ++ cond (spot D.domain place.now (values side.now)).several (outcome D.domain (at + 1) side.now
+          (store_several D.domain (addressed D.domain place.now (values side.now)) cells.now at side.now source)
+          (store_several_posts D.domain (addressed D.domain place.now (values side.now)) cells.now)) [];
+    } }
     ensures draft { draft.new ≡ draft.old }
 {
     if !has_several(place, side) {

@@ -108,11 +108,7 @@ fn data_value<D: NumDomain>(
 }
 
 /// The range of an input span of which the place may be an address.
-fn input_value<D: NumDomain>(
-    place: &Place,
-    fact: &Fact<D>,
-    span: &(Addr, Addr, Range),
-) -> Option<D>
+fn input_value<D: NumDomain>(place: &Place, fact: &Fact<D>, span: &(Addr, Addr, Range)) -> Option<D>
     ensures { result ≡ given
         (span_meets D.domain (addressed D.domain place.now (values fact.now)) span.now)
         (range_value D.domain span.now.2) }

@@ -69,7 +69,11 @@ impl<D: NumDomain> Outcome<D> {
         requires after { length self.old.after.cells ≡ length after.now.cells }
         requires posts { length self.old.posts.cells ≡ length posts.now.cells }
         ensures { self.new ≡ record {
-            target = target; pre = pre.now; after = after.now; posts = posts.now } }
+          target = target;
+          pre = pre.now;
+          after = after.now;
+          posts = posts.now;
+        } }
     {
         self.target = target;
         self.pre.copy_from(pre);

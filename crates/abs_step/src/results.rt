@@ -111,7 +111,11 @@ pub(crate) fn result_value<D: NumDomain>(
             apply(*function, &source_value(at, fact, *source), &m)
         }
         Work::Move(shift, source) => {
-            shifted(*shift, &source_value(at, fact, *source), known_bit(fact.flag()))
+            shifted(
+                *shift,
+                &source_value(at, fact, *source),
+                known_bit(fact.flag()),
+            )
         }
     }
 }

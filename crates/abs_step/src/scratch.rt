@@ -50,7 +50,11 @@ impl<D: NumDomain> Places<D> {
         requires after { length after.now.cells ≡ self.old.cells }
         requires posts { length posts.now.cells ≡ self.old.cells }
         ensures { self.new ≡ pushed self.old (record {
-            target = target; pre = pre.now; after = after.now; posts = posts.now }) }
+          target = target;
+          pre = pre.now;
+          after = after.now;
+          posts = posts.now;
+        }) }
     {
         let slot = &mut self.items[self.used];
         slot.set(target, pre, after, posts);
@@ -64,8 +68,10 @@ impl<D: NumDomain> Places<D> {
         requires pre { length pre.now.cells ≡ self.old.cells }
         requires after { length after.now.cells ≡ self.old.cells }
         requires posts { length posts.now.cells ≡ self.old.cells }
-        ensures { self.new ≡ record self.old { outcomes = self.old.outcomes
-            ++ outcome D.domain target pre.now after.now posts.now } }
+        ensures { self.new ≡ record self.old {
+          outcomes = self.old.outcomes
+              ++ outcome D.domain target pre.now after.now posts.now;
+        } }
     {
         if !after.is_empty() {
             self.push(target, pre, after, posts);

@@ -8,10 +8,10 @@ ghost use Rattle.abs_step.specs.Results.{addressed};
 ghost use Rattle.abs_step.specs.Stores.{joined_cells, source_link, store_several, store_several_posts};
 ghost use Rattle.abs_step.specs.Writes.{hits, is_among, drop_flag, drop_link, put_cells};
 
+use crate::Post;
 use crate::addresses::may_be;
 use crate::posts::Posts;
 use crate::results::source_value;
-use crate::Post;
 use flag_relation::{Atom, Fact, Flag, Link, Reg, Right};
 use num_domain::NumDomain;
 use viper_decode::{Place, Source};
@@ -44,12 +44,7 @@ fn may_be_cell<D: NumDomain>(place: &Place, side: &Fact<D>, cells: &[Addr]) -> b
 }
 
 /// Is it a cell that the place may be?
-fn is_hit_right<D: NumDomain>(
-    place: &Place,
-    side: &Fact<D>,
-    cells: &[Addr],
-    right: Right,
-) -> bool
+fn is_hit_right<D: NumDomain>(place: &Place, side: &Fact<D>, cells: &[Addr], right: Right) -> bool
     ensures { result ≡ is_among
         (hits (addressed D.domain place.now (values side.now)) cells.now) right }
 {
@@ -60,31 +55,20 @@ fn is_hit_right<D: NumDomain>(
 }
 
 /// Does some atom compare with a cell that the place may be?
-fn is_compared<D: NumDomain>(
-    place: &Place,
-    side: &Fact<D>,
-    cells: &[Addr],
-    atoms: &[Atom],
-) -> bool
+fn is_compared<D: NumDomain>(place: &Place, side: &Fact<D>, cells: &[Addr], atoms: &[Atom]) -> bool
     ensures { result ≡ list_any (λ a. is_among
         (hits (addressed D.domain place.now (values side.now)) cells.now) a.right) atoms.now }
 {
     match atoms {
         [] => false,
         [first, rest @ ..] => {
-            is_hit_right(place, side, cells, first.right)
-                || is_compared(place, side, cells, rest)
+            is_hit_right(place, side, cells, first.right) || is_compared(place, side, cells, rest)
         }
     }
 }
 
 /// What is known of B after a write to the cells that the place may be.
-fn flag_after<D: NumDomain>(
-    place: &Place,
-    side: &Fact<D>,
-    cells: &[Addr],
-    flag: Flag,
-) -> Flag
+fn flag_after<D: NumDomain>(place: &Place, side: &Fact<D>, cells: &[Addr], flag: Flag) -> Flag
     ensures { result ≡ drop_flag (λ a. is_among
         (hits (addressed D.domain place.now (values side.now)) cells.now) a.right) flag }
 {
@@ -124,13 +108,7 @@ fn link_after<D: NumDomain>(
 }
 
 /// The value of a cell, joined with what is stored where the place may be its address.
-fn joined<D: NumDomain>(
-    place: &Place,
-    side: &Fact<D>,
-    cell: Addr,
-    old: &D,
-    stored: &D,
-) -> D
+fn joined<D: NumDomain>(place: &Place, side: &Fact<D>, cell: Addr, old: &D, stored: &D) -> D
     ensures { result ≡ cond (addressed D.domain place.now (values side.now) cell)
         (D.domain.join old.now stored.now) old.now }
 {
@@ -150,8 +128,10 @@ fn join_cells<D: NumDomain>(
     after: &mut Fact<D>,
 )
     requires { length cells.now ≡ length after.old.cells }
-    ensures joined { after.new ≡ record after.old { cells = joined_cells D.domain
-        (addressed D.domain place.now (values side.now)) cells.now after.old.cells stored.now } }
+    ensures joined { after.new ≡ record after.old {
+      cells = joined_cells D.domain
+          (addressed D.domain place.now (values side.now)) cells.now after.old.cells stored.now;
+    } }
     ensures count { length after.new.cells ≡ length after.old.cells }
 {
     let count = after.count();
@@ -231,12 +211,7 @@ fn post_of<D: NumDomain>(place: &Place, side: &Fact<D>, cell: Addr) -> Post
 }
 
 /// Says of each cell what becomes of it.
-fn set_posts<D: NumDomain>(
-    place: &Place,
-    side: &Fact<D>,
-    cells: &[Addr],
-    posts: &mut [Post],
-)
+fn set_posts<D: NumDomain>(place: &Place, side: &Fact<D>, cells: &[Addr], posts: &mut [Post])
     requires { length cells.now ≡ length posts.old }
     ensures posts { posts.new ≡ map
         (λ c. cond (addressed D.domain place.now (values side.now) c) Within Same) cells.now }

@@ -81,13 +81,7 @@ fn link_after_cell(link: Option<Link>, cell: u8) -> Option<Link>
 {
     match link {
         None => None,
-        Some(l) => {
-            if cell == l.cell {
-                None
-            } else {
-                Some(l)
-            }
-        }
+        Some(l) => { if cell == l.cell { None } else { Some(l) } }
     }
 }
 

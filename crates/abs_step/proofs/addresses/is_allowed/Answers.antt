@@ -1,6 +1,5 @@
-use Rattle.std.proofs.Common.{◌≡◌, ◌+◌, ◌-◌, ◌≤◌, ◌<◌, ◌^◌, ◌&&◌, not, true, false, ℕ, ℤ, pos, ◌+ℤ◌, arith, sym, ◌∙◌, ap, Some, None, Option, to_z, of_z, w64}
+use Rattle.std.proofs.Common.{◌-◌, ◌^◌, not, arith, sym, ◌∙◌, ap}
 use Rattle.flag_relation.specs.Facts.{values}
-use Rattle.abs_step.specs.Addresses.{any_from}
 use Rattle.abs_step.specs.Results.{addressed}
 use Rattle.abs_step.specs.Walks.{allows, refuses}
 use Rattle.abs_step.proofs.SearchLaws.{none_refused, one_refused, refused_on, first_some, past}

@@ -1,4 +1,4 @@
-use Rattle.std.proofs.Common.{refl, ◌≡◌, ◌+◌, ◌-◌, ◌≤◌, ◌<◌, ◌^◌, ◌&&◌, not, true, false, ℕ, ℤ, pos, ◌+ℤ◌, arith, sym, ◌∙◌, ap, Some, None, Option, List, length, to_z, of_z, w64}
+use Rattle.std.proofs.Common.{refl, ◌+◌, ◌-◌, ◌≤◌, ◌^◌, ℕ, arith, sym, ◌∙◌, ap, List, length}
 use Rattle.abs_step.specs.Addresses.{passing}
 use Rattle.abs_step.specs.Walks.{is_point_at}
 use Rattle.abs_step.specs.declared.outcome.TheConstants.{MOST_TARGETS}

@@ -1,4 +1,4 @@
-use Rattle.std.proofs.Common.{◌≡◌, sym, ◌∙◌, ap, Option}
+use Rattle.std.proofs.Common.{sym, ◌∙◌, ap, Option}
 use Rattle.num_domain.specs.Ends.{ends}
 use Rattle.abs_step.specs.Conditions.{function_exact, ends_of}
 use Rattle.abs_step.proofs.EndTests.{exact_none}

@@ -1,4 +1,4 @@
-use Rattle.std.proofs.Common.{◌≡◌, ◌+◌, ◌-◌, ◌≤◌, ◌<◌, ◌^◌, ◌&&◌, not, true, false, ℕ, ℤ, pos, ◌+ℤ◌, arith, sym, ◌∙◌, ap, Some, None, Option, List, length, to_z, of_z, w64}
+use Rattle.std.proofs.Common.{◌≡◌, ◌-◌, ◌≤◌, ◌^◌, ◌&&◌, not, true, false, arith, sym, ◌∙◌, ap}
 use Rattle.memory_plan.specs.Plans.{in_code}
 use Rattle.abs_step.specs.Walks.{is_point_at}
 use Rattle.abs_step.proofs.SearchLaws.{none_refused, one_refused, one_allowed, first_some, past}

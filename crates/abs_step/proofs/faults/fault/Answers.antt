@@ -1,4 +1,4 @@
-use Rattle.std.proofs.Common.{◌≡◌, Bool, not, true, false, refl, sym, ◌∙◌, ap, Some, None, Option}
+use Rattle.std.proofs.Common.{◌≡◌, Bool, true, false, sym, ◌∙◌, ap}
 use Rattle.flag_relation.specs.InPlace.{left}
 use Rattle.viper_word.specs.Fields.{is_illegal}
 use Rattle.viper_decode.specs.declared.instructions.Instruction.{Instruction}

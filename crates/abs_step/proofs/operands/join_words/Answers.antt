@@ -1,7 +1,7 @@
-use Rattle.std.proofs.Common.{◌≡◌, ◌+◌, ◌-◌, ◌≤◌, ◌<◌, ◌^◌, ◌&&◌, not, true, false, ℕ, ℤ, pos, ◌+ℤ◌, arith, sym, ◌∙◌, ap, Some, None, Option, to_z, of_z, w64}
+use Rattle.std.proofs.Common.{◌≡◌, ◌-◌, true, arith, sym, ◌∙◌, ap}
 use Rattle.flag_relation.specs.Facts.{values}
 use Rattle.memory_plan.specs.Plans.{word_at}
-use Rattle.abs_step.specs.Results.{addressed, join_all, words_from, or_value, word_source}
+use Rattle.abs_step.specs.Results.{addressed, or_value, word_source}
 use Rattle.abs_step.proofs.SearchLaws.{no_words, words_over, words_next_on, first_some}
 use Rattle.abs_step.proofs.operands.join_words.Goals as goal
 

@@ -1,6 +1,6 @@
-use Rattle.std.proofs.Common.{◌≡◌, ◌+◌, ◌-◌, ◌≤◌, ◌<◌, ◌^◌, ◌&&◌, not, true, false, ℕ, ℤ, pos, ◌+ℤ◌, arith, sym, ◌∙◌, ap, Some, None, Option, to_z, of_z, w64}
+use Rattle.std.proofs.Common.{◌≡◌, ◌-◌, true, false, arith, sym, ◌∙◌}
 use Rattle.flag_relation.specs.Facts.{values}
-use Rattle.abs_step.specs.Addresses.{any_from, is_tracked}
+use Rattle.abs_step.specs.Addresses.{is_tracked}
 use Rattle.abs_step.specs.Results.{addressed}
 use Rattle.abs_step.specs.Walks.{is_untracked}
 use Rattle.abs_step.proofs.SearchLaws.{none_refused, one_refused, one_allowed, first_some, past}

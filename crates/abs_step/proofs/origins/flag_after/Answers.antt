@@ -1,4 +1,4 @@
-use Rattle.std.proofs.Common.{◌≡◌, ℕ, length, sym, subst, Option, IfSome}
+use Rattle.std.proofs.Common.{ℕ, length, sym, subst, IfSome}
 use Rattle.flag_relation.specs.declared.atom.Atom.{Atom}
 use Rattle.flag_relation.specs.declared.flag.Flag.{Flag}
 use Rattle.flag_relation.specs.Limits.{IsFlagOf, IsRightOf}

@@ -1,4 +1,4 @@
-use Rattle.std.proofs.Common.{◌≡◌, length, sym, ◌∙◌, subst, Option, IfSome}
+use Rattle.std.proofs.Common.{length, sym, subst, Option, IfSome}
 use Rattle.flag_relation.specs.declared.link.Link.{Link}
 use Rattle.flag_relation.specs.Limits.{IsLinkOf}
 use Rattle.flag_relation.specs.declared.var.Var.{Var}

@@ -1,4 +1,4 @@
-use Rattle.std.proofs.Common.{◌≡◌, ℤ, true, false, sym, ◌∙◌}
+use Rattle.std.proofs.Common.{◌≡◌, true, false, sym, ◌∙◌}
 use Rattle.std.specs.Prelude.{int_le}
 use Rattle.std.proofs.Math.Path.{ap₂}
 use Rattle.abs_step.proofs.PointLaws.{ends_none, ends_low, ends_found, ends_apart, as_word, some_ends}

@@ -1,7 +1,7 @@
-use Rattle.std.proofs.Common.{refl, ◌≡◌, ◌≤◌, ◌<◌, ◌-◌,  ℕ, ℤ, pos, ◌-ℤ◌, ◌≤ℤ◌, ◌<ℤ◌, nat_abs, arith, sym, ap, ◌∙◌, Some, None, to_z, of_z, w64}
+use Rattle.std.proofs.Common.{refl, ◌≡◌, ◌≤◌, ◌<◌, ◌-◌, ℤ, pos, ◌-ℤ◌, ◌≤ℤ◌, ◌<ℤ◌, arith, sym, ap, ◌∙◌, Some, None, to_z, of_z, w64}
 use Rattle.std.proofs.lemmas.Int.{ints}
 use Rattle.viper_word.specs.Words.{least_signed}
-use Rattle.abs_step.specs.Walks.{first_from, is_moved_point}
+use Rattle.abs_step.specs.Walks.{is_moved_point}
 use Rattle.abs_step.proofs.PointLaws.{walk_no_ends, walk_none, walk_beyond, walk_past, walk_here, walk_on, first_over, not_less}
 use Rattle.viper_word.proofs.Integers.{le_true, le_false}
 use Rattle.abs_step.proofs.points.first_point.Goals as goal

@@ -1,8 +1,7 @@
-use Rattle.std.proofs.Common.{◌≡◌, ◌<◌, ◌≤◌, ◌+◌, length, set, get_or, ℕ, List, refl, arith, sym, ap, ◌∙◌}
+use Rattle.std.proofs.Common.{arith, sym, ◌∙◌}
 use Rattle.std.proofs.lemmas.List.{length-set}
-use Rattle.abs_step.specs.declared.outcome.Post.{Post}
 use Rattle.abs_step.specs.declared.outcome.Post.TheVariants.{Same}
-use Rattle.abs_step.proofs.CellWrites.{fill_from, fill_start, fill_end, fill_any}
+use Rattle.abs_step.proofs.CellWrites.{fill_start, fill_end, fill_any}
 use Rattle.abs_step.proofs.posts.stay.Goals as goal
 
 pub loop-at-init : goal.loop-at-init

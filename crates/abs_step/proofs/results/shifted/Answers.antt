@@ -1,4 +1,4 @@
-use Rattle.std.proofs.Common.{◌≡◌, sym, ◌∙◌, ap}
+use Rattle.std.proofs.Common.{sym, ◌∙◌, ap}
 use Rattle.viper_decode.specs.declared.instructions.Shift.{Shift}
 use Rattle.abs_step.specs.Results.{move}
 use Rattle.abs_step.proofs.results.shifted.Goals as goal

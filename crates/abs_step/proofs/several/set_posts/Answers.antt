@@ -1,10 +1,10 @@
-use Rattle.std.proofs.Common.{◌≡◌, ◌<◌, ◌≤◌, ◌+◌, length, set, ℕ, cond, refl, arith, sym, ap, ◌∙◌}
+use Rattle.std.proofs.Common.{ℕ, cond, arith, sym, ◌∙◌}
 use Rattle.std.proofs.lemmas.List.{length-set}
 use Rattle.flag_relation.specs.Facts.{values}
 use Rattle.abs_step.specs.Results.{addressed}
 use Rattle.abs_step.specs.declared.outcome.Post.{Post}
 use Rattle.abs_step.specs.declared.outcome.Post.TheVariants.{Same, Within}
-use Rattle.abs_step.proofs.CellWrites.{fill_from, fill_start, fill_end, fill_step}
+use Rattle.abs_step.proofs.CellWrites.{fill_start, fill_end, fill_step}
 use Rattle.abs_step.proofs.several.set_posts.Goals as goal
 
 pub loop-at-init : goal.loop-at-init

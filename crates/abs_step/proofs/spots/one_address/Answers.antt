@@ -1,10 +1,9 @@
-use Rattle.std.proofs.Common.{◌≡◌, ℕ, ℤ, pos, ◌+ℤ◌, cond, Option, Some, None, arith, sym, ◌∙◌, ap, to_z, of_z, w64}
+use Rattle.std.proofs.Common.{◌≡◌, ℕ, pos, ◌+ℤ◌, cond, Option, Some, None, arith, sym, ◌∙◌, ap, to_z, of_z, w64}
 use Rattle.std.proofs.lemmas.Int.{ints}
 use Rattle.viper_word.specs.Options.{bind}
 use Rattle.num_domain.specs.Ends.{ends}
 use Rattle.flag_relation.specs.Facts.{values}
 use Rattle.viper_decode.specs.declared.instructions.Place.{Place}
-use Rattle.viper_decode.specs.declared.instructions.Place.TheVariants.{Index}
 use Rattle.abs_step.specs.Results.{addressed}
 use Rattle.abs_step.specs.Stores.{lawful_at, spot}
 use Rattle.abs_step.specs.Walks.{both}
