@@ -1,5 +1,7 @@
 pub mod Performing
 pub mod AddressLaws
+pub mod PointLaws
+pub mod SearchLaws
 pub mod WriteLaws
 pub mod ResultLaws
 pub mod OutcomeLaws
@@ -25,3 +27,10 @@ pub mod StepTheorem
 pub mod StartMet
 pub mod AllStepLaws
 pub mod CellWrites
+pub mod LinkLimits
+pub mod EndTests
+pub mod FaultSteps
+pub mod PlaceLaws
+pub mod TargetLaws
+pub mod SpotLaws
+pub mod JumpRoom

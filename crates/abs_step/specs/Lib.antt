@@ -6,8 +6,12 @@ pub mod OutcomeLists
 pub mod Stores
 pub mod Outcomes
 pub mod Conditions
+pub mod Places
+pub mod Walks
+pub mod Faults
 pub mod Laws
 pub mod Posts
+pub mod Limits
 pub mod States
 pub mod Starts
 pub mod StepLaws

@@ -3,10 +3,27 @@
 //! docs/METHOD.md, "Outcomes" and "Conditions", has the rules in words.
 #![tactic(auto)]
 
+mod addresses;
+mod conditions;
+mod draft;
+mod faults;
+mod jumps;
 mod laws;
+mod making;
+mod operands;
+mod origins;
 mod outcome;
+mod points;
+mod posts;
+mod results;
+mod scratch;
+mod several;
+mod spots;
 mod starting;
+mod writes;
+mod written;
 
 pub use laws::step_laws;
-pub use outcome::{Cond, Post};
+pub use outcome::{Cond, Outcome, Post};
+pub use posts::Posts;
 pub use starting::start_fact;

@@ -1,7 +1,13 @@
-use flag_relation::Var;
+ghost use Rattle.std.specs.Prelude.{◌≡◌, length};
+
+use crate::posts::Posts;
+use flag_relation::{Fact, Var};
+use num_domain::NumDomain;
+use std::marker::Model;
+use viper_word::Addr;
 
 /// How many targets a jump may have at the most.
-const MOST_TARGETS: usize = 64;
+pub(crate) const MOST_TARGETS: usize = 64;
 
 /// A local condition, of a cell (H1), of a start line (H2), or of a node: C1 to C7 of one instruction,
 /// C8 to C11 of a node with its successors and rank. docs/METHOD.md, "Conditions".
@@ -31,4 +37,47 @@ pub enum Post {
     Plus(Var, i64),
     /// It is somewhere within its value of the fact after the instruction.
     Within,
+}
+
+/// What may come of an instruction: where it leads, the fact that its side has before it, the fact
+/// after it, and what becomes of each variable. docs/METHOD.md, "Outcomes".
+#[derive(Drop)]
+pub struct Outcome<D> {
+    pub target: Addr,
+    pub pre: Fact<D>,
+    pub after: Fact<D>,
+    pub posts: Posts,
+}
+
+impl<D> Model for Outcome<D> {
+    ghost use Rattle.abs_step.specs.OutcomeLists.{OutcomeOf};
+
+    ghost Value = { OutcomeOf D };
+
+    ghost view = { λ o. record {
+      target = o.target;
+      pre = o.pre;
+      after = o.after;
+      posts = o.posts;
+    } };
+}
+
+impl<D: NumDomain> Outcome<D> {
+    /// Becomes that outcome. Each part has as many cells as before.
+    pub(crate) fn set(&mut self, target: Addr, pre: &Fact<D>, after: &Fact<D>, posts: &Posts)
+        requires pre { length self.old.pre.cells ≡ length pre.now.cells }
+        requires after { length self.old.after.cells ≡ length after.now.cells }
+        requires posts { length self.old.posts.cells ≡ length posts.now.cells }
+        ensures { self.new ≡ record {
+          target = target;
+          pre = pre.now;
+          after = after.now;
+          posts = posts.now;
+        } }
+    {
+        self.target = target;
+        self.pre.copy_from(pre);
+        self.after.copy_from(after);
+        self.posts.copy_from(posts);
+    }
 }

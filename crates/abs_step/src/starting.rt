@@ -54,7 +54,7 @@ fn flag_of(b: Option<bool>) -> Flag
 }
 
 /// The numbers of a range as a value.
-fn value_of<D: NumDomain>(range: &Range) -> D
+pub(crate) fn value_of<D: NumDomain>(range: &Range) -> D
     ensures { result ≡ range_value D.domain range.now }
 {
     D::span(range.lo, range.hi, range.modulus)
