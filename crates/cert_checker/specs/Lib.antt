@@ -1,0 +1,4 @@
+pub mod Nodes
+pub mod Conditions
+pub mod Verdicts
+pub mod Claims
