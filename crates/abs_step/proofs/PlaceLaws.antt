@@ -1,6 +1,6 @@
 -- Each place of a list has so many cells, also after one is written.
 use Rattle.std.specs.Prelude.{◌≡◌, ℕ, ◌<◌, List, [], ◌∷◌, ◌++◌, length}
-use Rattle.std.proofs.Common.{arith, zero, suc, subst, sym, set, get_or}
+use Rattle.std.proofs.Common.{arith, zero, suc, subst, sym, set, get_or, take}
 use Rattle.abs_step.specs.OutcomeLists.{OutcomeOf}
 use Rattle.abs_step.specs.Places.{HasCells, AllHaveCells}
 
@@ -17,3 +17,8 @@ cells_set n (q ∷ os) (suc i) o h k = (h.0, cells_set n os i o h.1 k)
 pub cells_push : {T : Type 0} (n : ℕ) (os : List (OutcomeOf T)) (o : OutcomeOf T) → AllHaveCells n os → HasCells n o → AllHaveCells n (os ++ o ∷ [])
 cells_push n [] o h k = (k, tt)
 cells_push n (q ∷ os) o h k = (h.0, cells_push n os o h.1 k)
+
+pub cells_take : {T : Type 0} (n k : ℕ) (os : List (OutcomeOf T)) → AllHaveCells n os → AllHaveCells n (take k os)
+cells_take n zero os h = tt
+cells_take n (suc k) [] h = tt
+cells_take n (suc k) (o ∷ os) h = (h.0, cells_take n k os h.1)

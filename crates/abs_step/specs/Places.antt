@@ -1,4 +1,4 @@
--- Outcomes in places that were made before, of which no public clause speaks.
+-- Outcomes in places that were made before.
 use Rattle.std.specs.Prelude.{◌≡◌, ℕ, ◌≤◌, List, [], ◌∷◌, ◌++◌, length}
 use Rattle.abs_step.specs.OutcomeLists.{OutcomeOf}
 

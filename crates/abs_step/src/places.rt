@@ -41,7 +41,7 @@ impl<D> Model for Places<D> {
 }
 
 impl<D: NumDomain> Places<D> {
-    ghost use Rattle.abs_step.specs.Places.{pushed};
+    ghost use Rattle.abs_step.specs.Places.{AllHaveCells, pushed};
     ghost use Rattle.abs_step.specs.OutcomeLists.{outcome};
 
     /// Places for the most outcomes of a step, over so many cells. `Memory` for want of memory.
@@ -70,7 +70,8 @@ impl<D: NumDomain> Places<D> {
 
     /// The outcomes that were entered, in order.
     pub(crate) fn entered(&self) -> &[Outcome<D>]
-        ensures { result.now ≡ self.now.outcomes }
+        ensures outcomes { result.now ≡ self.now.outcomes }
+        ensures cells { AllHaveCells self.now.cells self.now.outcomes }
     {
         &self.items.as_slice()[..self.used]
     }

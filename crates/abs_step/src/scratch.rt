@@ -5,6 +5,7 @@ ghost use Rattle.flag_relation.specs.declared.fact.TheConstants.{MOST_CELLS};
 ghost use Rattle.abs_step.specs.Conditions.{outcomes_at};
 ghost use Rattle.abs_step.specs.OutcomeLists.{live};
 ghost use Rattle.abs_step.specs.Faults.{fault_of, live_side};
+ghost use Rattle.abs_step.specs.Places.{AllHaveCells};
 ghost use Rattle.std.specs.Prelude.{Some};
 
 use crate::draft::Draft;
@@ -60,9 +61,11 @@ impl<D: NumDomain> Scratch<D> {
         })
     }
 
-    /// The outcomes of the last step: the skipped side first, then the targets in ascending order.
+    /// The outcomes of the last step: the skipped side first, then the targets in ascending order. Each
+    /// part of them has as many cells as the room.
     pub fn outcomes_in(&self) -> &[Outcome<D>]
-        ensures { result.now ≡ self.now.outcomes }
+        ensures outcomes { result.now ≡ self.now.outcomes }
+        ensures cells { AllHaveCells self.now.cells self.now.outcomes }
     {
         self.places.entered()
     }
