@@ -122,3 +122,24 @@ pub record Includes {T : Type 0} (d : Domain T) (cells : List ℕ) (o : OutcomeO
 pub includes_some : {T : Type 0} (d : Domain T) (cells : List ℕ) (o : OutcomeOf T) (other : Option (NodeOf T)) → includes_after d cells o other ≡ true → Includes d cells o other
 includes_some d cells o None h = absurd (cc)
 includes_some d cells o (Some m) h = record { node = m; is = refl; included = h }
+
+-- ---- all conditions of a node, from those of its instruction
+
+earlier_of_none : (o p : Option Cond) → o ≡ None → p ≡ earlier o p
+earlier_of_none None p h = refl
+earlier_of_none (Some c) p h = absurd (none-some c (sym h))
+
+module _ {T : Type 0} (d : Domain T) (plan : PlanLines) (cells : List ℕ) (price : ℕ → ℕ) (nodes : List (NodeOf T)) (n : NodeOf T) where
+  from_outcomes : (os : List (OutcomeOf T)) → fault d plan cells n.addr (known d cells n) ≡ None → os ≡ outcomes d plan cells n.addr (known d cells n)
+      → flow_fault d plan cells price nodes n os ≡ node_fault d plan cells price nodes n
+  unfolding node_fault
+  from_outcomes os h e =
+      ap (flow_fault d plan cells price nodes n) e
+      ∙ earlier_of_none (fault d plan cells n.addr (known d cells n)) (flow_fault d plan cells price nodes n (outcomes d plan cells n.addr (known d cells n))) h
+
+  pub node_fault_is : (cs : List ℕ) (at : ℕ) (f : FactOf T) (os : List (OutcomeOf T)) → cs ≡ cells → at ≡ n.addr → f ≡ known d cells n
+      → fault d plan cs at f ≡ None → os ≡ outcomes d plan cs at f → flow_fault d plan cells price nodes n os ≡ node_fault d plan cells price nodes n
+  node_fault_is cs at f os ec ea ef h o =
+      let fault_is : fault d plan cs at f ≡ fault d plan cells n.addr (known d cells n) = rw (ec, ea, ef) refl in
+      let outcomes_are : outcomes d plan cs at f ≡ outcomes d plan cells n.addr (known d cells n) = rw (ec, ea, ef) refl in
+      from_outcomes os (sym fault_is ∙ h) (o ∙ outcomes_are)

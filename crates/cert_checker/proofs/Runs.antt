@@ -102,17 +102,17 @@ module _ {T : Type 0} (d : Domain T) (plan : PlanLines) (price : ℕ → ℕ) (c
 
   -- no node at the address has a greater upper bound than the marker's
   bound_above : (at : ℕ) (nodes : List (NodeOf T)) (k : ℕ) (n : NodeOf T) → slice_get nodes k ≡ Some n → n.addr ≡ at
-      → IsAtMost (unsigned_abs (upper d n.rank (known d c.cells n))) (bound_at d plan price c at nodes)
+      → IsAtMost (unsigned_abs (upper d n.rank (known d c.cells n))) (bound_at d c.cells at nodes)
   bound_above at [] k n h e = absurd (none-some n h)
   bound_above at (m ∷ ms) zero n h e =
       let same : m ≡ n = same_Some m n h in
       let test : (n.addr == at) ≡ true = (Decides-eqb n.addr at).1 e in
-      rw (same, test) (raised_bounds (unsigned_abs (upper d n.rank (known d c.cells n))) (bound_at d plan price c at ms))
+      rw (same, test) (raised_bounds (unsigned_abs (upper d n.rank (known d c.cells n))) (bound_at d c.cells at ms))
   bound_above at (m ∷ ms) (suc k) n h e = either_way (m.addr == at) (bound_above at ms k n h e)
     where
-      either_way : (b : Bool) → IsAtMost (unsigned_abs (upper d n.rank (known d c.cells n))) (bound_at d plan price c at ms)
-          → IsAtMost (unsigned_abs (upper d n.rank (known d c.cells n))) (if b then raised (unsigned_abs (upper d m.rank (known d c.cells m))) (bound_at d plan price c at ms) else bound_at d plan price c at ms)
-      either_way true rest = raised_keeps (unsigned_abs (upper d n.rank (known d c.cells n))) (unsigned_abs (upper d m.rank (known d c.cells m))) (bound_at d plan price c at ms) rest
+      either_way : (b : Bool) → IsAtMost (unsigned_abs (upper d n.rank (known d c.cells n))) (bound_at d c.cells at ms)
+          → IsAtMost (unsigned_abs (upper d n.rank (known d c.cells n))) (if b then raised (unsigned_abs (upper d m.rank (known d c.cells m))) (bound_at d c.cells at ms) else bound_at d c.cells at ms)
+      either_way true rest = raised_keeps (unsigned_abs (upper d n.rank (known d c.cells n))) (unsigned_abs (upper d m.rank (known d c.cells m))) (bound_at d c.cells at ms) rest
       either_way false rest = rest
 
   -- from a state whose rank is at most so much a marker is met within that many instructions
@@ -124,7 +124,7 @@ module _ {T : Type 0} (d : Domain T) (plan : PlanLines) (price : ℕ → ℕ) (c
       let after = within_has states (k + 1) (room_after k fuel (length states) room) in
       let g = at_next states answers run k s after.0 h after.1 a in
       on_from fuel k room after.0 after.1 (λ unmarked. meets_soon states answers run fuel (k + 1) after.0 after.1 (record { node = g.node; here = g.is_at })
-          (less_fuel (price s.p) fuel (rank_in d plan price c a.node s) (rank_in d plan price c g.node after.0) (priced s.p) (g.falls unmarked) le) (omega arith))
+      (less_fuel (price s.p) fuel (rank_in d plan price c a.node s) (rank_in d plan price c g.node after.0) (priced s.p) (g.falls unmarked) le) (omega arith))
     where
       on_from : (fuel k : ℕ) → k + suc fuel < length states → (t : State) → slice_get states (k + 1) ≡ Some t
           → (is_marker plan t.p ≡ false → MeetsMarker plan states (k + 1 + 1) (k + 1 + fuel)) → MeetsMarker plan states (k + 1) (k + suc fuel)
@@ -162,10 +162,10 @@ module _ {T : Type 0} (d : Domain T) (plan : PlanLines) (price : ℕ → ℕ) (c
         let a = at_each states answers run k s h in
         let kept = keeps d plan price c facts bounds steps well up local a.node (record { place = a.here.number; there = a.here.there }) in
         (steps.cover well up (known d c.cells a.node) s (slice_index answers k) a.here.meets (run.fair k s inside h)
-            (subst (λ (at : ℕ). fault d plan c.cells at (known d c.cells a.node) ≡ None) (sym a.here.place) kept.no_fault)).tidy;
+        (subst (λ (at : ℕ). fault d plan c.cells at (known d c.cells a.node) ≡ None) (sym a.here.place) kept.no_fault)).tidy;
   }
 
-  claimed : (m : ℕ) (b : Bound) → bound_at d plan price c m c.nodes ≡ b → Claimed plan price m b
+  claimed : (m : ℕ) (b : Bound) → bound_at d c.cells m c.nodes ≡ b → Claimed plan price m b
   claimed m (Within bound) e = record {
     count = λ states answers run k s h here_m room.
         let a = at_each states answers run k s h in
@@ -189,15 +189,15 @@ module _ {T : Type 0} (d : Domain T) (plan : PlanLines) (price : ℕ → ℕ) (c
       let both_are : Within most.bound ≡ Unreached = sym most.is ∙ e in
       absurd (cc (both_are))
 
-  claimed_each : (ms : List ℕ) → AllByRecursion (λ (e : ℕ × Bound). Claimed plan price e.0 e.1) (map (λ m. (m, bound_at d plan price c m c.nodes)) ms)
+  claimed_each : (ms : List ℕ) → AllByRecursion (λ (e : ℕ × Bound). Claimed plan price e.0 e.1) (map (λ m. (m, bound_at d c.cells m c.nodes)) ms)
   claimed_each [] = tt
-  claimed_each (m ∷ ms) = (claimed m (bound_at d plan price c m c.nodes) refl, claimed_each ms)
+  claimed_each (m ∷ ms) = (claimed m (bound_at d c.cells m c.nodes) refl, claimed_each ms)
 
   pub suffices : Suffices d plan price c
   suffices = record {
     carried = carried d plan price c facts bounds steps well up local;
     holds = record {
       safe = all_safe;
-      markers = All-from_recursion (λ (e : ℕ × Bound). Claimed plan price e.0 e.1) (bounds_of d plan price c) (claimed_each plan.markers);
+      markers = All-from_recursion (λ (e : ℕ × Bound). Claimed plan price e.0 e.1) (bounds_of d plan c) (claimed_each plan.markers);
     };
   }

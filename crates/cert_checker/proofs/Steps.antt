@@ -1,5 +1,5 @@
 -- Local conditions carry facts and ranks over one step.
-use Rattle.std.proofs.Common.{◌≡◌, ℕ, ◌+◌, ◌-◌, ◌^◌, ◌≤◌, ◌==◌, ◌&&◌, ◌||◌, Bool, true, false, not, List, [], ◌∷◌, Option, Some, None, refl, sym, ap, subst, ◌∙◌, slice_get, get_or, ℤ, pos, int_le, inl, inr, arith, ◌+ℤ◌, ◌-ℤ◌, ◌≤ℤ◌}
+use Rattle.std.proofs.Common.{◌≡◌, ℕ, ◌+◌, ◌-◌, ◌^◌, ◌≤◌, ◌==◌, ◌&&◌, ◌||◌, Bool, true, false, not, List, [], ◌∷◌, Option, Some, None, refl, sym, ap, subst, ◌∙◌, slice_get, get_or, ℤ, pos, neg_ℤ, int_le, inl, inr, arith, ◌+ℤ◌, ◌-ℤ◌, ◌≤ℤ◌}
 use Rattle.std.specs.Prelude.{All}
 use Rattle.std.specs.List.{list_any, list_all}
 use Rattle.std.proofs.lemmas.Bool.{and_parts, or_cases}
@@ -34,8 +34,8 @@ use Rattle.cert_checker.proofs.Nodes.{Stands, StandsAt, successor_stands, Keeps,
 at_least : (r q : ℤ) → int_le r q ≡ true → r ≤ℤ q
 at_least r q h = grind (arith, ints)
 
-rise_small : (r : ℤ) (p : ℕ) → int_le (r +ℤ pos p) (pos 0) ≡ true → (r +ℤ pos p) ≤ℤ pos 0
-rise_small r p h = grind (arith, ints)
+rise_small : (r : ℤ) (p : ℕ) → int_le r (neg_ℤ (pos p)) ≡ true → (r +ℤ pos p) ≤ℤ pos 0
+rise_small r p h = let le : r ≤ℤ neg_ℤ (pos p) = at_least r (neg_ℤ (pos p)) h in omega (arith, ints, le)
 
 fall_by : (v w r : ℤ) (p : ℕ) → (w -ℤ v) ≤ℤ r → (r +ℤ pos p) ≤ℤ pos 0 → (w +ℤ pos p) ≤ℤ v
 fall_by v w r p a b = omega (arith, ints)
@@ -128,9 +128,9 @@ module _ {T : Type 0} (d : Domain T) (plan : PlanLines) (price : ℕ → ℕ) (c
       let covered = steps.cover well up f s answer here.meets fair (rw here.place k.no_fault) in
       let parts = and_parts (are_distinct c.nodes n.succ) (list_all (λ o. includes_after d c.cells o (successor c.nodes n.succ o.target)) os) k.flows in
       let pass = some_passes d plan c.cells s u
-          (λ o. includes_after d c.cells o (successor c.nodes n.succ o.target))
-          (λ o. is_marker plan o.target || falls_to d plan c.cells price n o (successor c.nodes n.succ o.target))
-          os (subst (λ (at : ℕ). SomeOutcome d plan c.cells s u (outcomes d plan c.cells at f)) here.place covered.outcome) parts.1 k.falls in
+      (λ o. includes_after d c.cells o (successor c.nodes n.succ o.target))
+      (λ o. is_marker plan o.target || falls_to d plan c.cells price n o (successor c.nodes n.succ o.target))
+      os (subst (λ (at : ℕ). SomeOutcome d plan c.cells s u (outcomes d plan c.cells at f)) here.place covered.outcome) parts.1 k.falls in
       let o = pass.outcome in
       let found = includes_some d c.cells o (successor c.nodes n.succ o.target) pass.first in
       let m = found.node in

@@ -84,7 +84,7 @@ module _ {T : Type 0} (d : Domain T) (plan : PlanLines) (price : ℕ → ℕ) (c
   -- each marker is bounded, or unreached.
   pub record Suffices : Type 0 where
     pub carried : IsCarried
-    pub holds : Holds plan price (bounds_of d plan price c)
+    pub holds : Holds plan price (bounds_of d plan c)
 
   -- prices of at least 1, and cells in ascending order
   abbrev pub LocalSuffices : Type 0

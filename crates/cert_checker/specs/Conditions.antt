@@ -1,5 +1,5 @@
 -- The local conditions of a certificate: each is read at one cell, one start or one node alone.
-use Rattle.std.specs.Prelude.{◌≡◌, ℕ, ◌-◌, ◌^◌, ℤ, pos, ◌+ℤ◌, int_le, Bool, true, false, not, ◌&&◌, ◌||◌, ◌==◌, List, [], ◌∷◌, length, Option, Some, None, is_some, All, slice_get}
+use Rattle.std.specs.Prelude.{◌≡◌, ℕ, ◌-◌, ◌^◌, ℤ, pos, neg_ℤ, int_le, Bool, true, false, not, ◌&&◌, ◌||◌, ◌==◌, List, [], ◌∷◌, length, Option, Some, None, is_some, All, slice_get}
 use Rattle.std.specs.List.{list_any, list_all}
 use Rattle.num_domain.specs.Domain.{Domain}
 use Rattle.memory_plan.specs.Plans.{PlanLines, range_at, is_marker}
@@ -67,7 +67,7 @@ module _ {T : Type 0} (d : Domain T) (plan : PlanLines) (cells : List ℕ) (pric
 
   abbrev pub falls_to : NodeOf T → OutcomeOf T → Option (NodeOf T) → Bool
   falls_to n o None = false
-  falls_to n o (Some m) = int_le (rise d n.rank m.rank o +ℤ pos (price n.addr)) (pos 0)
+  falls_to n o (Some m) = int_le (rise d n.rank m.rank o) (neg_ℤ (pos (price n.addr)))
 
   -- C10: the rank falls by the price at least, unless the outcome leads into a marker
   unfoldable pub c10 : List (NodeOf T) → NodeOf T → List (OutcomeOf T) → Bool

@@ -1,4 +1,5 @@
 pub mod Nodes
+pub mod Judged
 pub mod Conditions
 pub mod Verdicts
 pub mod Claims

@@ -32,7 +32,7 @@ abbrev pub raised : ℕ → Bound → Bound
 raised rank Unreached = Within rank
 raised rank (Within bound) = Within (max rank bound)
 
-module _ {T : Type 0} (d : Domain T) (plan : PlanLines) (price : ℕ → ℕ) (c : CertificateOf T) where
+module _ {T : Type 0} (d : Domain T) (plan : PlanLines) (c : CertificateOf T) where
   -- the first start that no listed node covers, counted from k
   abbrev pub first_start : ℕ → List Start → Option Refusal
   first_start k [] = None
@@ -40,11 +40,13 @@ module _ {T : Type 0} (d : Domain T) (plan : PlanLines) (price : ℕ → ℕ) (c
       if is_start_covered d plan c.cells c.nodes c.starts s then first_start (k + 1) ss
       else Some (record { place = place.Start k; addr = s.at; cond = H2 }))
 
-  -- the first node at which a condition fails, counted from k
-  abbrev pub refused_at : ℕ → NodeOf T → Option Cond → Option Refusal → Option Refusal
-  refused_at k n None others = others
-  refused_at k n (Some cond) others = Some (record { place = place.Node k; addr = n.addr; cond = cond })
+-- the failure of the node of that number, or else the others
+abbrev pub refused_at : {T : Type 0} → ℕ → NodeOf T → Option Cond → Option Refusal → Option Refusal
+refused_at k n None others = others
+refused_at k n (Some cond) others = Some (record { place = place.Node k; addr = n.addr; cond = cond })
 
+module _ {T : Type 0} (d : Domain T) (plan : PlanLines) (price : ℕ → ℕ) (c : CertificateOf T) where
+  -- the first node at which a condition fails, counted from k
   abbrev pub first_node : ℕ → List (NodeOf T) → Option Refusal
   first_node k [] = None
   first_node k (n ∷ ns) =
@@ -52,27 +54,29 @@ module _ {T : Type 0} (d : Domain T) (plan : PlanLines) (price : ℕ → ℕ) (c
 
   -- the first failure: cells in order, then starts, then nodes
   abbrev pub first_failure : Option Refusal
-  first_failure = or_else (first_cell plan 0 c.cells) (or_else (first_start 0 plan.starts) (first_node 0 c.nodes))
+  first_failure = or_else (first_cell plan 0 c.cells)
+      (or_else (first_start d plan c 0 plan.starts) (first_node 0 c.nodes))
 
+module _ {T : Type 0} (d : Domain T) where
   -- The greatest upper bound of the ranks of the nodes at an address, and Unreached where none stands
   -- there. Where all conditions hold each is at least 1, and so its size is the bound itself.
-  abbrev pub bound_at : ℕ → List (NodeOf T) → Bound
-  bound_at at [] = Unreached
-  bound_at at (n ∷ ns) = (
-      if n.addr == at then raised (unsigned_abs (upper d n.rank (known d c.cells n))) (bound_at at ns)
-      else bound_at at ns)
+  abbrev pub bound_at : List ℕ → ℕ → List (NodeOf T) → Bound
+  bound_at cells at [] = Unreached
+  bound_at cells at (n ∷ ns) = (
+      if n.addr == at then raised (unsigned_abs (upper d n.rank (known d cells n))) (bound_at cells at ns)
+      else bound_at cells at ns)
 
   -- each marker with its bound, in the plan's order
-  abbrev pub bounds_of : List (ℕ × Bound)
-  bounds_of = map (λ m. (m, bound_at m c.nodes)) plan.markers
+  abbrev pub bounds_of : PlanLines → CertificateOf T → List (ℕ × Bound)
+  bounds_of plan c = map (λ m. (m, bound_at c.cells m c.nodes)) plan.markers
 
-  abbrev pub verdict_from : List (ℕ × Bound) → Option Refusal → Result (List (ℕ × Bound)) Refusal
-  verdict_from bounds None = Ok bounds
-  verdict_from bounds (Some r) = Err r
+abbrev pub verdict_from : List (ℕ × Bound) → Option Refusal → Result (List (ℕ × Bound)) Refusal
+verdict_from bounds None = Ok bounds
+verdict_from bounds (Some r) = Err r
 
-  -- what is to be answered
-  unfoldable pub verdict_of : Result (List (ℕ × Bound)) Refusal
-  verdict_of = verdict_from bounds_of first_failure
+-- what is to be answered
+unfoldable pub verdict_of : {T : Type 0} → Domain T → PlanLines → (ℕ → ℕ) → CertificateOf T → Result (List (ℕ × Bound)) Refusal
+verdict_of d plan price c = verdict_from (bounds_of d plan c) (first_failure d plan price c)
 
 -- what the checker's answer says
 abbrev pub verdict_view : Verdict → Result (List (ℕ × Bound)) Refusal

@@ -12,3 +12,8 @@ pub mod RankLaws
 pub mod Limits
 pub mod FirstTerm
 pub mod Rating
+pub mod CodeLaws
+pub mod Pushing
+pub mod Ordering
+pub mod Fitting
+pub mod AfterForms

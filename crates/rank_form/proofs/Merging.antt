@@ -1,5 +1,5 @@
 -- A form with its terms in order weighs the same.
-use Rattle.std.specs.Prelude.{◌≡◌, ℕ, zero, suc, ◌+◌, ◌≤◌, ◌<◌, nat_eq, nat_lt, ℤ, pos, ◌+ℤ◌, ◌*ℤ◌, cond, Bool, true, false, List, [], ◌∷◌, ◌++◌, length}
+use Rattle.std.specs.Prelude.{◌≡◌, ℕ, zero, suc, ◌+◌, ◌≤◌, ◌<◌, nat_eq, ℤ, pos, ◌+ℤ◌, ◌*ℤ◌, cond, Bool, true, false, List, [], ◌∷◌}
 use Rattle.std.specs.Ordering.{int_eq}
 use Rattle.std.proofs.Common.{refl, arith, sym, ◌∙◌, ap, subst, ◌⊎◌, inl, inr}
 use Rattle.std.proofs.Math.Path.{ap₂}
@@ -12,7 +12,7 @@ use Rattle.flag_relation.specs.declared.var.Var.TheVariants.{Reg, Cell}
 use Rattle.flag_relation.specs.Forms.{FormOf, var_number}
 use Rattle.rank_form.specs.Weights.{weigh, is_at, rate, var_at, term_of, terms_from, past, merged}
 use Rattle.rank_form.proofs.Alikes.{Alike}
-use Rattle.rank_form.proofs.Products.{times_times, times_zero, zero_times}
+use Rattle.rank_form.proofs.Products.{times_times, zero_times}
 use Rattle.rank_form.proofs.Summing.{at_one, at_none, test_same, test_other, test_above}
 use Rattle.rank_form.proofs.Weighing.{weigh_append}
 
@@ -88,11 +88,11 @@ weigh_from h g k zero = refl
 weigh_from h g k (suc m) =
     weigh_append h (term_of (var_at k) (g (var_at k))) (terms_from g (suc k) m) ∙ ap₂ ◌+ℤ◌ (weigh_term h (var_at k) (g (var_at k))) (weigh_from h g (suc k) m)
 
-past_head : (t : Var × ℤ) (ts : List (Var × ℤ)) (n : ℕ) → past (t ∷ ts) ≤ n → var_number t.0 < n
+pub past_head : (t : Var × ℤ) (ts : List (Var × ℤ)) (n : ℕ) → past (t ∷ ts) ≤ n → var_number t.0 < n
 unfolding past
 past_head t ts n h = grind arith
 
-past_tail : (t : Var × ℤ) (ts : List (Var × ℤ)) (n : ℕ) → past (t ∷ ts) ≤ n → past ts ≤ n
+pub past_tail : (t : Var × ℤ) (ts : List (Var × ℤ)) (n : ℕ) → past (t ∷ ts) ≤ n → past ts ≤ n
 unfolding past
 past_tail t ts n h = grind arith
 
