@@ -2,4 +2,5 @@ pub mod Nodes
 pub mod Judged
 pub mod Conditions
 pub mod Verdicts
+pub mod Small
 pub mod Claims

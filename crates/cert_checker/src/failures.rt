@@ -1,13 +1,13 @@
 //! The first condition that fails: of the cells, of the starts, of the nodes.
 
-ghost use Rattle.std.specs.Prelude.{◌≡◌, ◌<◌, ◌^◌, length, slice_get};
+ghost use Rattle.std.specs.Prelude.{◌≡◌, ◌<◌, length, slice_get};
 ghost use Rattle.std.specs.List.{list_any, AllByRecursion};
 ghost use Rattle.abs_step.specs.Starts.{start_fact};
 ghost use Rattle.cert_format.specs.Certificates.{node_at};
 ghost use Rattle.cert_format.specs.Limits.{IsBelow};
 ghost use Rattle.cert_checker.specs.Judged.{IsJudged};
 ghost use Rattle.cert_checker.specs.Conditions.{is_data, covers_start, is_start_covered};
-ghost use Rattle.cert_checker.specs.Verdicts.{first_cell, first_start, first_node};
+ghost use Rattle.cert_checker.specs.Verdicts.{first_cell, first_start, first_node, first_failure};
 
 use crate::node::node_fault;
 use crate::reading::known;
@@ -19,14 +19,13 @@ use memory_plan::{Plan, Start};
 use viper_word::Addr;
 
 /// The first cell that is no word of data.
-pub(crate) fn first_cell(plan: &Plan, cells: &[Addr]) -> Option<Refusal>
-    requires { length cells.now < 2 ^ 32 }
+fn first_cell(plan: &Plan, cells: &[Addr]) -> Option<Refusal>
     ensures { result ≡ first_cell plan.now 0 cells.now }
 {
     for (i, cell) in cells.iter().enumerate() {
         if plan.data_range(*cell).is_none() {
             return Some(Refusal {
-                place: Place::Cell(i as u32),
+                place: Place::Cell(i as u64),
                 addr: *cell,
                 cond: Cond::H1,
             });
@@ -72,14 +71,13 @@ fn is_covered<D: Spelled>(
 }
 
 /// The first start that no listed node covers. `fact` is room for as many cells.
-pub(crate) fn first_start<D: Spelled>(
+fn first_start<D: Spelled>(
     plan: &Plan,
     cert: &CertOf<D>,
     starts: &[Start],
     fact: &mut Fact<D>,
 ) -> Option<Refusal>
     requires judged { IsJudged cert.now }
-    requires few { length starts.now < 2 ^ 32 }
     requires room { length fact.old.cells ≡ length cert.now.cells }
     ensures { result ≡ first_start D.domain plan.now cert.now 0 starts.now }
 {
@@ -87,7 +85,7 @@ pub(crate) fn first_start<D: Spelled>(
         start_fact(plan, cert.cells(), start, fact);
         if !is_covered(plan, cert, start, fact, cert.starts()) {
             return Some(Refusal {
-                place: Place::Start(i as u32),
+                place: Place::Start(i as u64),
                 addr: start.at,
                 cond: Cond::H2,
             });
@@ -97,7 +95,7 @@ pub(crate) fn first_start<D: Spelled>(
 }
 
 /// The first node at which a condition fails.
-pub(crate) fn first_node<D: Spelled>(
+fn first_node<D: Spelled>(
     plan: &Plan,
     cert: &CertOf<D>,
     price: u32,
@@ -110,11 +108,34 @@ pub(crate) fn first_node<D: Spelled>(
     for i in 0..cert.len() {
         if let Some(cond) = node_fault(plan, cert, i, price, scratch) {
             return Some(Refusal {
-                place: Place::Node(i),
+                place: Place::Node(u64::from(i)),
                 addr: cert.addr(i),
                 cond,
             });
         }
     }
     None
+}
+
+/// The first condition that fails: the cells in order, then the starts, then the nodes. `fact` and
+/// `scratch` are room for as many cells.
+pub(crate) fn first_failure<D: Spelled>(
+    plan: &Plan,
+    cert: &CertOf<D>,
+    price: u32,
+    fact: &mut Fact<D>,
+    scratch: &mut Scratch<D>,
+) -> Option<Refusal>
+    requires judged { IsJudged cert.now }
+    requires fact { length fact.old.cells ≡ length cert.now.cells }
+    requires room { scratch.old.cells ≡ length cert.now.cells }
+    ensures { result ≡ first_failure D.domain plan.now (λ _. price) cert.now }
+{
+    if let Some(refusal) = first_cell(plan, cert.cells()) {
+        return Some(refusal);
+    }
+    if let Some(refusal) = first_start(plan, cert, plan.starts(), fact) {
+        return Some(refusal);
+    }
+    first_node(plan, cert, price, scratch)
 }

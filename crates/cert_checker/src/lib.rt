@@ -1,6 +1,8 @@
 //! The checker: whether a certificate's local conditions hold.
 #![tactic(auto)]
 
+mod bounds;
+mod checking;
 mod failures;
 mod flow;
 mod node;

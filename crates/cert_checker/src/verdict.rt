@@ -7,11 +7,11 @@ use viper_word::Addr;
 #[derive(Clone, Copy, Debug, PartialEq, Eq)]
 pub enum Place {
     /// The certificate's cell of that number.
-    Cell(u32),
+    Cell(u64),
     /// The plan's start line of that number.
-    Start(u32),
+    Start(u64),
     /// The certificate's node of that number.
-    Node(u32),
+    Node(u64),
 }
 
 /// What a yes says of a marker. docs/METHOD.md, "Verdicts".

@@ -7,5 +7,5 @@ pub returns-clause-fault : goal.returns-clause-fault
 returns-clause-fault g c =
     c.flow_fault.ensures
     ∙ node_fault_is g.D.NumDomain.domain c.args.plan.now c.args.cert.now.cells (λ _. c.args.price) c.args.cert.now.nodes (node_at c.args.cert.now c.args.node)
-      c.cells.result.now c.addr.result c.known.result.now c.outcomes_in.result.now c.cells.ensures c.addr.ensures c.known.ensures.fact
-      c.in_default.ensures.fault (c.outcomes_in.ensures.outcomes ∙ c.in_default.ensures.outcomes)
+    c.cells.result.now c.addr.result c.known.result.now c.outcomes_in.result.now c.cells.ensures c.addr.ensures c.known.ensures.fact
+    c.in_default.ensures.fault (c.outcomes_in.ensures.outcomes ∙ c.in_default.ensures.outcomes)
