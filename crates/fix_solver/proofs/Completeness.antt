@@ -11,7 +11,7 @@ use Rattle.fix_solver.specs.declared.fault.SolveFault.{SolveFault}
 use Rattle.fix_solver.specs.declared.fault.SolveFault.TheVariants.{Undischarged, Nodes, Memory}
 use Rattle.fix_solver.specs.Rules.{Rules}
 use Rattle.fix_solver.specs.Solutions.{IsSolution, IsEverywhere, HasKeys}
-use Rattle.fix_solver.specs.Work.{IsTrueFault, IsMemory}
+use Rattle.fix_solver.specs.Faults.{IsTrueFault, IsMemory}
 use Rattle.fix_solver.proofs.Given.{by_bool}
 
 -- what holds of all keys of a list holds of each that is in it

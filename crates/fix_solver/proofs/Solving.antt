@@ -1,5 +1,5 @@
 -- From the table to the answer.
-use Rattle.std.proofs.Common.{◌≡◌, ℕ, zero, suc, ◌<◌, Bool, Option, None, Some, IsSomeAnd, List, [], ◌∷◌, length, map, get_or, refl, sym, ap, subst, ◌∙◌}
+use Rattle.std.proofs.Common.{◌≡◌, ℕ, zero, suc, ◌<◌, Bool, Option, None, Some, IfSome, IsSomeAnd, List, [], ◌∷◌, length, map, get_or, refl, sym, ap, subst, ◌∙◌}
 use Rattle.std.proofs.lemmas.List.{length-map}
 use Rattle.std.specs.List.{AllByRecursion, IsDistinct}
 use Rattle.std.proofs.lemmas.Map.Keys.{IsDistinct-from_sorted}
@@ -9,12 +9,12 @@ use Rattle.flow_recover.proofs.KeyLemmas.{is_eq-key_cmp}
 use Rattle.fix_solver.specs.declared.at.At.{At}
 use Rattle.fix_solver.specs.Order.{IsSetOf, ArePlaces, AreRows}
 use Rattle.fix_solver.specs.Pending.{is_pending}
-use Rattle.fix_solver.specs.Rules.{Rules, Below, Included}
+use Rattle.fix_solver.specs.Rules.{Rules, RulesLaws, Below, Fits, Included}
 use Rattle.fix_solver.specs.Solutions.{IsLeastSolution}
 use Rattle.fix_solver.specs.Solved.{NodeOf, IsInOrder, IsSolved, facts_of, rows_of}
 use Rattle.fix_solver.specs.Tables.{TableOf, fact_at, place, place_of, keys_of}
 use Rattle.fix_solver.specs.Work.{IsWork}
-use Rattle.fix_solver.proofs.Given.{place-below_here}
+use Rattle.fix_solver.proofs.Given.{place-below_here, fit_at}
 use Rattle.fix_solver.proofs.OrderedFacts.{all_from, fact_at-member}
 use Rattle.fix_solver.proofs.Starting.{none_pending}
 use Rattle.fix_solver.proofs.TableLemmas.{here_below}
@@ -53,10 +53,11 @@ module _ {F : Type 0} (r : Rules F) where
       let below : place_of (keys_of fs) o.key < length (keys_of fs) = rw length-map (place-below_here fs o.key here) in
       λ j. are.at o.key below j ∷ moved_row es fs os places same are h.1 j
 
-  pub solved_from : (t : TableOf F) (ns : List (NodeOf F)) → IsWork r t (is_pending []) → IsLeastSolution r (fact_at t.known) → IsInOrder t ns → IsSolved r ns
-  solved_from t ns w least o = record {
+  pub solved_from : (laws : RulesLaws r) (t : TableOf F) (ns : List (NodeOf F)) → IsWork r t (is_pending []) → IsLeastSolution r (fact_at t.known) → IsInOrder t ns → IsSolved r ns
+  solved_from laws t ns w least o = record {
     few = o.few;
     ascending = o.ascending;
+    fit = fitting ns members;
     least = subst (IsLeastSolution r) (λ i k. sym (o.facts k) i) least;
     succ = rows ns members o.rows;
   }
@@ -68,6 +69,10 @@ module _ {F : Type 0} (r : Rules F) where
       members = all_from (λ n. fact_at t.known n.key ≡ Some n.fact) ns (λ i n b e.
           let within : i < length (facts_of ns) = rw length-map b in
           sym (o.facts n.key) ∙ fact_at-member (facts_of ns) i (record { key = n.key; fact = n.fact }) distinct within (facts_get ns i n e))
+
+      fitting : (ms : List (NodeOf F)) → AllByRecursion (λ n. fact_at t.known n.key ≡ Some n.fact) ms → AllByRecursion (λ n. Fits r n.fact) ms
+      fitting [] m = tt
+      fitting (n ∷ ms) m = (subst (λ p. IfSome p (λ f. Fits r f)) m.0 (fit_at r laws t.known w.fit n.key), fitting ms m.1)
 
       rows : (ms : List (NodeOf F)) → AllByRecursion (λ n. fact_at t.known n.key ≡ Some n.fact) ms → AreRows (keys_of t.known) o.places t.succ (keys_of (facts_of ms)) (rows_of ms)
           → AllByRecursion (λ n. IsSetOf n.succ (map (λ e. place (facts_of ns) e.key) (r.outcomes n.key n.fact))) ms

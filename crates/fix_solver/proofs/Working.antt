@@ -12,7 +12,8 @@ use Rattle.fix_solver.specs.Solutions.{IsCandidate, IsLeastSolution, IsEverywher
 use Rattle.fix_solver.specs.Tables.{TableOf, keys_of, fact_at, place, given}
 use Rattle.fix_solver.specs.declared.fault.SolveFault.{SolveFault}
 use Rattle.fix_solver.specs.declared.fault.SolveFault.TheVariants.{Undischarged, Nodes, Memory}
-use Rattle.fix_solver.specs.Work.{IsFull, IsTrueFault, IsWork, IsForced}
+use Rattle.fix_solver.specs.Faults.{IsTrueFault}
+use Rattle.fix_solver.specs.Work.{IsFull, IsWork, IsForced}
 use Rattle.fix_solver.proofs.Given.{by_bool, if_true, of_cond, fact_at-given_same, fact_at-given_other, place-given, place-below, all_through, all_larger_included, fit_given, grows, least_given, fit_at}
 
 pub or_false : (a b : Bool) → (a || b) ≡ false → (a ≡ false) × (b ≡ false)

@@ -5,8 +5,9 @@ use Rattle.std.specs.List.Sorted.{IsStrictlySortedBy}
 use Rattle.flow_recover.specs.declared.key.Key.{Key}
 use Rattle.flow_recover.specs.Keys.{key_cmp}
 use Rattle.fix_solver.specs.declared.at.At.{At}
+use Rattle.fix_solver.specs.declared.table.TheConstants.{MOST_KEYS}
 use Rattle.fix_solver.specs.Order.{IsSetOf, ArePlaces, AreRows}
-use Rattle.fix_solver.specs.Rules.{Rules}
+use Rattle.fix_solver.specs.Rules.{Rules, Fits}
 use Rattle.fix_solver.specs.Solutions.{IsLeastSolution}
 use Rattle.fix_solver.specs.Tables.{TableOf, keys_of, fact_at, place}
 
@@ -17,7 +18,7 @@ pub record NodeOf (F : Type 0) : Type 0 where
   pub succ : List ℕ
 
 -- the nodes, and how often outcomes were taken
-pub record SolvedOf (F : Type 0) : Type 0 where
+pub record FoundOf (F : Type 0) : Type 0 where
   pub nodes : List (NodeOf F)
   pub applied : ℕ
 
@@ -38,7 +39,7 @@ module _ {F : Type 0} where
 
   -- the table in ascending order of its keys, with the numbers in that order
   pub record IsInOrder (t : TableOf F) (ns : List (NodeOf F)) : Type 0 where
-    pub few : length ns ≤ 65536
+    pub few : length ns ≤ MOST_KEYS
     pub ascending : IsStrictlySortedBy key_cmp (keys_of (facts_of ns))
     pub facts : (k : Key) → fact_at (facts_of ns) k ≡ fact_at t.known k
     pub places : List ℕ
@@ -48,7 +49,8 @@ module _ {F : Type 0} where
 -- at most 65,536 keys, which ascend; the facts are the least solution, and beside each key stand the numbers of the
 -- keys that its outcomes lead to, ascending, each once
 pub record IsSolved {F : Type 0} (r : Rules F) (ns : List (NodeOf F)) : Type 0 where
-  pub few : length ns ≤ 65536
+  pub few : length ns ≤ MOST_KEYS
   pub ascending : IsStrictlySortedBy key_cmp (keys_of (facts_of ns))
+  pub fit : AllByRecursion (λ n. Fits r n.fact) ns
   pub least : IsLeastSolution r (fact_at (facts_of ns))
   pub succ : AllByRecursion (λ n. IsSetOf n.succ (map (λ e. place (facts_of ns) e.key) (r.outcomes n.key n.fact))) ns

@@ -8,7 +8,7 @@ use Rattle.fix_solver.specs.declared.fault.SolveFault.{SolveFault}
 use Rattle.fix_solver.specs.declared.fault.SolveFault.TheVariants.{Undischarged, Nodes, Memory}
 use Rattle.fix_solver.specs.Pending.{is_pending}
 use Rattle.fix_solver.specs.Rules.{Rules, Fits, Included, MapBelow}
-use Rattle.fix_solver.specs.Solutions.{IsCandidate, IsEverywhere, FailsEverywhere}
+use Rattle.fix_solver.specs.Solutions.{IsCandidate}
 use Rattle.fix_solver.specs.Tables.{TableOf, keys_of, fact_at, place, given, heights}
 
 module _ {F : Type 0} (r : Rules F) where
@@ -50,21 +50,3 @@ abbrev pub IsFull : {F : Type 0} → List (At F) → Key → SolveFault → Type
 IsFull es k (Undischarged l c) = ⊥
 IsFull es k (Nodes ks) = (length ks.items ≡ 65537) × IsDistinct same_key ks.items × (ks.items ≡ keys_of es ++ k ∷ [])
 IsFull es k Memory = Unit {0}
-
--- 65,537 keys that stand in every candidate
-pub record AreNodes {F : Type 0} (r : Rules F) (ks : List Key) : Type 0 where
-  pub count : length ks ≡ 65537
-  pub distinct : IsDistinct same_key ks
-  pub everywhere : AllByRecursion (λ k. IsEverywhere r k) ks
-
--- what a fault says of all candidates
-abbrev pub IsTrueFault : {F : Type 0} → Rules F → SolveFault → Type 0
-IsTrueFault r (Undischarged k c) = FailsEverywhere r k c
-IsTrueFault r (Nodes ks) = AreNodes r ks.items
-IsTrueFault r Memory = Unit {0}
-
--- nothing but memory was wanting
-abbrev pub IsMemory : SolveFault → Type 0
-IsMemory (Undischarged k c) = ⊥
-IsMemory (Nodes ks) = ⊥
-IsMemory Memory = Unit {0}

@@ -26,7 +26,7 @@ pub trait Rules {
     ghost has_room: { Self → Self.Scratch → Type 0 };
 
     /// What the scratch holds.
-    ghost held: { Self.Scratch → List (At Self.Fact) };
+    ghost held: { Self → Self.Scratch → List (At Self.Fact) };
 
     /// The fact that was brought to hand last.
     ghost in_hand: { Self.Scratch → Self.Fact };
@@ -52,19 +52,19 @@ pub trait Rules {
     ) -> Result<(), Cond>
         requires fits { Fits (meaning self.now) fact.now }
         requires room { has_room self.now scratch.old }
-        ensures outcomes { MatchResult result (λ _. ((meaning self.now).fault key.now fact.now ≡ None) × (held scratch.new ≡ (meaning self.now).outcomes key.now fact.now)) (λ c. (meaning self.now).fault key.now fact.now ≡ Some c) }
+        ensures outcomes { MatchResult result (λ _. ((meaning self.now).fault key.now fact.now ≡ None) × (held self.now scratch.new ≡ (meaning self.now).outcomes key.now fact.now)) (λ c. (meaning self.now).fault key.now fact.now ≡ Some c) }
         ensures room { has_room self.now scratch.new };
 
     /// How many facts the scratch holds.
     fn outcome_count(&self, scratch: &Self::Scratch) -> usize
-        ensures { result ≡ length (held scratch.now) };
+        ensures { result ≡ length (held self.now scratch.now) };
 
     /// The key of a fact that the scratch holds, which is brought to hand.
     fn outcome(&self, i: usize, scratch: &mut Self::Scratch) -> Key
-        requires within { i < length (held scratch.old) }
+        requires within { i < length (held self.now scratch.old) }
         requires room { has_room self.now scratch.old }
-        ensures outcome { slice_get (held scratch.old) i ≡ Some (record { key = result; fact = in_hand scratch.new }) }
-        ensures same { held scratch.new ≡ held scratch.old }
+        ensures outcome { slice_get (held self.now scratch.old) i ≡ Some (record { key = result; fact = in_hand scratch.new }) }
+        ensures same { held self.now scratch.new ≡ held self.now scratch.old }
         ensures room { has_room self.now scratch.new };
 
     /// The fact in hand.

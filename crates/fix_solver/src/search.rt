@@ -9,12 +9,14 @@ ghost use Rattle.fix_solver.specs.Rules.{Fits, MapBelow};
 ghost use Rattle.fix_solver.specs.Solutions.{IsSolution, IsLeastSolution, HasKeys};
 ghost use Rattle.fix_solver.specs.Solved.{IsSolved};
 ghost use Rattle.fix_solver.specs.Tables.{fact_at};
-ghost use Rattle.fix_solver.specs.Work.{IsWork, IsGiven, IsPaid, IsFull, IsTrueFault, IsMemory};
+ghost use Rattle.fix_solver.specs.declared.table.TheConstants.{MOST_KEYS};
+ghost use Rattle.fix_solver.specs.Faults.{IsTrueFault, IsMemory};
+ghost use Rattle.fix_solver.specs.Work.{IsWork, IsGiven, IsPaid, IsFull};
 
 use crate::fault::SolveFault;
 use crate::pending::Pending;
 use crate::rules::Rules;
-use crate::solved::Solved;
+use crate::found::Found;
 use crate::table::{MOST_KEYS, Table};
 use flow_recover::Key;
 use std::alloc::Global;
@@ -150,13 +152,13 @@ fn find<R: Rules>(
 /// The least solution of the rules, in which all conditions hold at every key, or why there is none.
 /// Where there is a solution with at most 65,536 keys, only memory can be wanting. Takes the least
 /// pending key first.
-pub fn solve<R: Rules>(
+pub(crate) fn least<R: Rules>(
     alloc: Global,
     rules: &R,
     scratch: &mut R::Scratch,
-) -> Result<Solved<R::Fact>, SolveFault>
+) -> Result<Found<R::Fact>, SolveFault>
     requires { R.has_room rules.now scratch.old }
-    ensures complete { (m : Key → Option R.Fact) (ks : List Key) → IsSolution (R.meaning rules.now) m → HasKeys m ks → length ks ≤ 65536 → IfErr result IsMemory }
+    ensures complete { (m : Key → Option R.Fact) (ks : List Key) → IsSolution (R.meaning rules.now) m → HasKeys m ks → length ks ≤ MOST_KEYS → IfErr result IsMemory }
     ensures solved { IfOk result (λ s. IsSolved (R.meaning rules.now) s.nodes) }
     ensures fault { IfErr result (IsTrueFault (R.meaning rules.now)) }
 {
