@@ -2,6 +2,7 @@
 use Rattle.std.specs.Prelude.{◌≡◌, ◌≤◌, ℕ, List, [], ◌∷◌, map, length}
 use Rattle.std.specs.List.{AllByRecursion}
 use Rattle.std.specs.List.Sorted.{IsStrictlySortedBy}
+use Rattle.flag_relation.specs.Facts.{FactOf}
 use Rattle.flow_recover.specs.declared.key.Key.{Key}
 use Rattle.flow_recover.specs.Keys.{key_cmp}
 use Rattle.fix_solver.specs.declared.at.At.{At}
@@ -20,6 +21,12 @@ pub record NodeOf (F : Type 0) : Type 0 where
 -- the nodes, and how often outcomes were taken
 pub record FoundOf (F : Type 0) : Type 0 where
   pub nodes : List (NodeOf F)
+  pub applied : ℕ
+
+-- the cells whose values facts have, the nodes, and how often outcomes were taken
+pub record SolvedOf (T : Type 0) : Type 0 where
+  pub cells : List ℕ
+  pub nodes : List (NodeOf (FactOf T))
   pub applied : ℕ
 
 module _ {F : Type 0} where

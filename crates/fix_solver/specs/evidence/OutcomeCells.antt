@@ -33,19 +33,13 @@ use Rattle.abs_step.specs.OutcomeLists.{OutcomeOf, each, live, is_live, outcome}
 use Rattle.abs_step.specs.Stores.{Spot, spot, stored, store_one, store_several, joined_cells, source_link, unlinked}
 use Rattle.abs_step.specs.Outcomes.{flag_set, assigned, linked, linked_posts, jumps, is_target, taken_side, skipped_side, performed, instruction_outcomes}
 use Rattle.abs_step.specs.Conditions.{instruction_at, outcomes_at, outcomes}
+use Rattle.fix_solver.specs.Rooms.{HasSoMany, AllHave}
 
 pub same_length : {T U : Type 0} (R : T → U → Type 0) (ts : List T) (us : List U) → Pairwise R ts us → length ts ≡ length us
 same_length R [] [] h = refl
 same_length R [] (u ∷ us) h = absurd h
 same_length R (t ∷ ts) [] h = absurd h
 same_length R (t ∷ ts) (u ∷ us) h = ap suc (same_length R ts us h.1)
-
--- the fact after the outcome has so many cells
-abbrev pub HasSoMany : {T : Type 0} → ℕ → OutcomeOf T → Type 0
-HasSoMany n o = length o.after.cells ≡ n
-
-abbrev pub AllHave : {T : Type 0} → ℕ → List (OutcomeOf T) → Type 0
-AllHave n os = AllByRecursion (HasSoMany n) os
 
 both_have : {T : Type 0} (n : ℕ) (os ps : List (OutcomeOf T)) → AllHave n os → AllHave n ps → AllHave n (os ++ ps)
 both_have n [] ps h k = k

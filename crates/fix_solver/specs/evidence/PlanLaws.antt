@@ -1,5 +1,5 @@
 -- The laws of the rules of a plan.
-use Rattle.std.specs.Prelude.{◌≡◌, ℕ, ℤ, Bool, true, false, cond, nat_le, List, [], ◌∷◌, length, map, replicate, Option, Some, None, IfSome}
+use Rattle.std.specs.Prelude.{◌≡◌, ℕ, ℤ, Bool, true, false, cond, nat_le, List, [], ◌∷◌, length, map, replicate, Option, Some, None, IfSome, Result, Ok, Err, MatchResult}
 use Rattle.std.proofs.Common.{refl, sym, ap, subst, ◌∙◌, inl, inr}
 use Rattle.std.proofs.lemmas.Bool.{eq-eqb, eqb-true}
 use Rattle.std.proofs.lemmas.List.{length-map, length-replicate}
@@ -30,7 +30,8 @@ use Rattle.flow_recover.specs.Thresholds.{thresholds_of}
 use Rattle.fix_solver.specs.declared.at.At.{At}
 use Rattle.fix_solver.specs.Rules.{Rules, RulesLaws, AllBelow, HasLarger, Below, Fits, Included}
 use Rattle.fix_solver.specs.Solutions.{IsCandidate, fields_at, arriving, arrival, start_at, rules_over, plan_rules, all_unknown}
-use Rattle.fix_solver.proofs.OutcomeCells.{same_length, AllHave, outcomes_have}
+use Rattle.fix_solver.specs.Rooms.{AllHave}
+use Rattle.fix_solver.specs.evidence.OutcomeCells.{same_length, outcomes_have}
 
 -- a condition of a chain that names none holds, and so does the rest
 unless_none : (b : Bool) (c : Cond) (o : Option Cond) → unless b c o ≡ None → (b ≡ true) × (o ≡ None)
@@ -90,7 +91,7 @@ module _ {T : Type 0} (d : Domain T) (laws : DomainLaws d) (plan : PlanLines) (c
   from_fact : (f g : FactOf T) → BelowFact d f g → Below over f g
   from_fact f g h = record { holds = ((fact_laws d laws).order.test f g).1 h }
 
-  count : (f : FactOf T) → Fits over f → length f.cells ≡ length cells
+  pub count : (f : FactOf T) → Fits over f → length f.cells ≡ length cells
   count f h = eqb-true (length f.cells) (length cells) h.holds
 
   fits_from : (f : FactOf T) → length f.cells ≡ length cells → Fits over f
@@ -188,3 +189,17 @@ module _ {T : Type 0} (d : Domain T) (laws : DomainLaws d) where
         starts = all_included plan _ rules.starts_fit;
         outcomes = λ k. all_included plan _ (rules.outcomes_fit k top fits);
       }
+
+  -- the join, where it isn't the fact itself
+  pub joined_is : (f g : FactOf T) → join d f g ≡ cond (includes d f g) f (join d f g)
+  joined_is f g = by (includes d f g) refl
+    where
+      by : (b : Bool) → includes d f g ≡ b → join d f g ≡ cond b f (join d f g)
+      by true e = (fact_laws d laws).joins.same f g e
+      by false e = refl
+
+  -- what was taken of a fact with so many cells has as many
+  pub taken_have : (plan : PlanLines) (cells : List ℕ) (at : ℕ) (f : FactOf T) (os : List (OutcomeOf T)) (r : Result (Unit {0}) Cond) → length f.cells ≡ length cells
+      → MatchResult r (λ _. (fault d plan cells at f ≡ None) × (os ≡ outcomes d plan cells at f)) (λ c. (fault d plan cells at f ≡ Some c) × (os ≡ [])) → AllHave (length cells) os
+  taken_have plan cells at f os (Ok u) e h = subst (λ (l : List (OutcomeOf T)). AllHave (length cells) l) (sym h.1) (subst (λ (n : ℕ). AllHave n (outcomes d plan cells at f)) e (outcomes_have d laws plan cells at f))
+  taken_have plan cells at f os (Err c) e h = subst (λ (l : List (OutcomeOf T)). AllHave (length cells) l) (sym h.1) tt
