@@ -8,7 +8,8 @@ use Rattle.memory_plan.specs.Plans.{PlanLines}
 use Rattle.flag_relation.specs.Facts.{FactOf}
 use Rattle.viper_decode.specs.Instructions.{instruction_of}
 use Rattle.viper_decode.specs.declared.instructions.Instruction.{Instruction}
-use Rattle.abs_step.specs.Conditions.{side_keeps, instruction_keeps, keeps, fault, unless, is_some, if_there, if_legal, word_fields}
+use Rattle.abs_step.specs.OutcomeLists.{OutcomeOf, live}
+use Rattle.abs_step.specs.Conditions.{side_keeps, instruction_keeps, keeps, fault, unless, is_some, if_there, if_legal, word_fields, outcomes_at, outcomes}
 use Rattle.abs_step.specs.Faults.{side_fault, fault_of, live_side}
 use Rattle.abs_step.specs.declared.outcome.Cond.{Cond}
 use Rattle.abs_step.specs.declared.outcome.Cond.TheVariants.{C1, C2, C3, C4, C5, C6, C7}
@@ -70,3 +71,15 @@ module _ {T : Type 0} (d : Domain T) (plan : PlanLines) (cells : List ℕ) (at :
       ∙ unless_so (not (is_illegal i)) C2 (rest_of (asked (read (Some i)))) (ap not h)
       ∙ ap (λ (b : Bool). rest_of (asked (bind (cond b None (Some i)) (λ j. Some (instruction_of j))))) h
       ∙ at_instruction (instruction_of i)
+
+  abbrev at_fields : Option Fields → List (OutcomeOf T)
+  at_fields o = outcomes_at d plan cells at (read o) (live d f)
+
+  outcomes_is : outcomes d plan cells at f ≡ at_fields (word_fields plan at)
+  unfolding outcomes
+  outcomes_is = refl
+
+  pub legal_outcomes : (i : Fields) → Some i ≡ word_fields plan at → is_illegal i ≡ false → outcomes d plan cells at f ≡ outcomes_at d plan cells at (Some (instruction_of i)) (live d f)
+  legal_outcomes i e h =
+      outcomes_is ∙ ap at_fields (sym e)
+      ∙ ap (λ (b : Bool). outcomes_at d plan cells at (bind (cond b None (Some i)) (λ j. Some (instruction_of j))) (live d f)) h

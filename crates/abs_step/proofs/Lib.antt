@@ -34,3 +34,5 @@ pub mod PlaceLaws
 pub mod TargetLaws
 pub mod SpotLaws
 pub mod JumpRoom
+pub mod OutcomeRoom
+pub mod Sides

@@ -1,5 +1,5 @@
 -- Each place of a list has so many cells, also after one is written.
-use Rattle.std.specs.Prelude.{◌≡◌, ℕ, ◌<◌, List, [], ◌∷◌, length}
+use Rattle.std.specs.Prelude.{◌≡◌, ℕ, ◌<◌, List, [], ◌∷◌, ◌++◌, length}
 use Rattle.std.proofs.Common.{arith, zero, suc, subst, sym, set, get_or}
 use Rattle.abs_step.specs.OutcomeLists.{OutcomeOf}
 use Rattle.abs_step.specs.Places.{HasCells, AllHaveCells}
@@ -13,3 +13,7 @@ pub cells_set : {T : Type 0} (n : ℕ) (os : List (OutcomeOf T)) (i : ℕ) (o : 
 cells_set n [] i o h k = tt
 cells_set n (q ∷ os) zero o h k = (k, h.1)
 cells_set n (q ∷ os) (suc i) o h k = (h.0, cells_set n os i o h.1 k)
+
+pub cells_push : {T : Type 0} (n : ℕ) (os : List (OutcomeOf T)) (o : OutcomeOf T) → AllHaveCells n os → HasCells n o → AllHaveCells n (os ++ o ∷ [])
+cells_push n [] o h k = (k, tt)
+cells_push n (q ∷ os) o h k = (h.0, cells_push n os o h.1 k)

@@ -15,3 +15,4 @@ pub mod Limits
 pub mod States
 pub mod Starts
 pub mod StepLaws
+pub mod Scratches

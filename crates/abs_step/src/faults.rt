@@ -1,4 +1,4 @@
-//! The first of the local conditions that fails, from the word at the address on.
+//! The word at an address, its taken side, and the first of the conditions that fails of it.
 
 ghost use Rattle.std.specs.Prelude.{◌≡◌, length};
 ghost use Rattle.flag_relation.specs.InPlace.{left};
@@ -6,15 +6,15 @@ ghost use Rattle.flag_relation.specs.Refining.{assume};
 ghost use Rattle.viper_word.specs.Options.{bind};
 ghost use Rattle.abs_step.specs.OutcomeLists.{live};
 ghost use Rattle.abs_step.specs.Outcomes.{taken_side};
-ghost use Rattle.abs_step.specs.Conditions.{word_fields, fault};
-ghost use Rattle.abs_step.specs.Faults.{side_fault, live_side};
+ghost use Rattle.abs_step.specs.Conditions.{word_fields};
+ghost use Rattle.abs_step.specs.Faults.{side_fault};
 
 use crate::Cond;
 use crate::conditions::{keeps_c3, keeps_c4, keeps_c5, keeps_c6, keeps_c7};
 use flag_relation::{Fact, Spare, assume};
 use memory_plan::Plan;
 use num_domain::NumDomain;
-use viper_decode::{Fields, Instruction, Side, decode, instruction, legal};
+use viper_decode::{Fields, Instruction, Side, decode};
 use viper_word::Addr;
 
 /// The numbers of the word at an address in code, which isn't the last address of all.
@@ -32,7 +32,7 @@ pub(crate) fn word_fields(plan: &Plan, at: Addr) -> Option<Fields>
 
 /// The first of C3 to C7 that fails of a taken side.
 #[tactic(auto, unfolding(crate::specs::Faults::side_fault, crate::specs::Conditions::side_keeps))]
-fn side_fault<D: NumDomain>(
+pub(crate) fn side_fault<D: NumDomain>(
     plan: &Plan,
     cells: &[Addr],
     at: Addr,
@@ -93,56 +93,5 @@ pub(crate) fn take_side<D: NumDomain>(
         Instruction::Assign(_, _) => true,
         Instruction::Output(_, _) => true,
         Instruction::Store(_, _) => true,
-    }
-}
-
-/// Makes `side` the taken side of a fact. False exactly where the fact is empty or there is none.
-pub(crate) fn taken<D: NumDomain>(
-    instruction: &Instruction,
-    fact: &Fact<D>,
-    side: &mut Fact<D>,
-    spare: &mut Spare<D>,
-) -> bool
-    requires side { length side.old.cells ≡ length fact.now.cells }
-    requires room { spare.old ≡ length fact.now.cells }
-    ensures value { left result side.new ≡ live_side D.domain instruction.now fact.now }
-    ensures count { length side.new.cells ≡ length side.old.cells }
-    ensures room { spare.new ≡ spare.old }
-{
-    if fact.is_empty() {
-        return false;
-    }
-    side.copy_from(fact);
-    take_side(instruction, side, spare)
-}
-
-/// The first of C1 to C7 that fails of the fact at the address; None exactly where all hold. `side`
-/// and `spare` are room, with as many cells as the fact. Takes no memory. docs/METHOD.md,
-/// "Conditions".
-pub(crate) fn fault<D: NumDomain>(
-    plan: &Plan,
-    cells: &[Addr],
-    at: Addr,
-    fact: &Fact<D>,
-    side: &mut Fact<D>,
-    spare: &mut Spare<D>,
-) -> Option<Cond>
-    requires side { length side.old.cells ≡ length fact.now.cells }
-    requires room { spare.old ≡ length fact.now.cells }
-    ensures fault { result ≡ fault D.domain plan.now cells.now at fact.now }
-    ensures count { length side.new.cells ≡ length side.old.cells }
-    ensures room { spare.new ≡ spare.old }
-{
-    let Some(fields) = word_fields(plan, at) else {
-        return Some(Cond::C1);
-    };
-    if !legal(fields) {
-        return Some(Cond::C2);
-    }
-    let word = instruction(fields);
-    if taken(&word, fact, side, spare) {
-        side_fault(plan, cells, at, &word, side)
-    } else {
-        None
     }
 }

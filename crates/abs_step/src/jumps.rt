@@ -8,9 +8,9 @@ ghost use Rattle.abs_step.specs.OutcomeLists.{outcome};
 ghost use Rattle.abs_step.specs.Outcomes.{is_target};
 ghost use Rattle.abs_step.specs.Walks.{is_point_at};
 
+use crate::places::Places;
 use crate::points::{COUNT, next_point};
 use crate::posts::Posts;
-use crate::scratch::Places;
 use flag_relation::Fact;
 use memory_plan::Plan;
 use num_domain::NumDomain;

@@ -17,10 +17,10 @@ use crate::draft::Draft;
 use crate::jumps::keep_targets;
 use crate::operands::operand_value;
 use crate::origins::{find_cell, flag_after, origin};
+use crate::places::Places;
 use crate::points::COUNT;
 use crate::posts::Posts;
 use crate::results::{is_call, result_value};
-use crate::scratch::Places;
 use crate::several::{several_posts, store_several};
 use crate::spots::{has_several, one_address};
 use crate::written::{assign, link_call, store_one};
@@ -31,7 +31,7 @@ use viper_decode::{Operand, Place, Side, Source, Work};
 use viper_word::{Addr, Kind};
 
 /// The address after this one, which isn't the last.
-fn next(at: Addr) -> Addr
+pub(crate) fn next(at: Addr) -> Addr
     requires { at + 1 < 2 ^ 20 }
     ensures { result ≡ at + 1 }
 {
@@ -40,7 +40,7 @@ fn next(at: Addr) -> Addr
 
 /// The outcome of a comparison: what it says of B.
 #[tactic(auto, unfolding(crate::specs::Outcomes::performed))]
-fn compare<D: NumDomain>(
+pub(crate) fn compare<D: NumDomain>(
     plan: &Plan,
     cells: &[Addr],
     at: Addr,
@@ -74,7 +74,7 @@ fn compare<D: NumDomain>(
 
 /// The outcome of a result to a register.
 #[tactic(auto, unfolding(crate::specs::Outcomes::performed))]
-fn assign_to<D: NumDomain>(
+pub(crate) fn assign_to<D: NumDomain>(
     plan: &Plan,
     cells: &[Addr],
     at: Addr,
@@ -108,7 +108,7 @@ fn assign_to<D: NumDomain>(
 
 /// The outcome of an output: nothing changes.
 #[tactic(auto, unfolding(crate::specs::Outcomes::performed))]
-fn put_out<D: NumDomain>(
+pub(crate) fn put_out<D: NumDomain>(
     plan: &Plan,
     cells: &[Addr],
     at: Addr,
@@ -150,7 +150,7 @@ fn call_posts<D: NumDomain>(is_call: bool, cells: &[Addr], posts: &mut Posts)
 
 /// The outcomes of a jump: one for each target.
 #[tactic(auto, unfolding(crate::specs::Outcomes::performed, crate::specs::Outcomes::jumps))]
-fn jump<D: NumDomain>(
+pub(crate) fn jump<D: NumDomain>(
     plan: &Plan,
     cells: &[Addr],
     at: Addr,
@@ -206,7 +206,7 @@ fn store_posts<D: NumDomain>(cells: &[Addr], source: Source, cell: Option<u8>, p
 }
 
 /// The outcome of a store at one address.
-fn store_at_one<D: NumDomain>(
+pub(crate) fn store_at_one<D: NumDomain>(
     cells: &[Addr],
     at: Addr,
     source: Source,
@@ -241,7 +241,7 @@ fn store_at_one<D: NumDomain>(
 }
 
 /// The outcome of a store at one of several addresses.
-fn store_at_several<D: NumDomain>(
+pub(crate) fn store_at_several<D: NumDomain>(
     cells: &[Addr],
     at: Addr,
     source: Source,

@@ -1,10 +1,13 @@
-ghost use Rattle.std.specs.Prelude.{◌≡◌, length};
+ghost use Rattle.std.specs.Prelude.{◌≡◌, ◌≤◌, length, IfOk};
+ghost use Rattle.flag_relation.specs.declared.fact.TheConstants.{MOST_CELLS};
+ghost use Rattle.abs_step.specs.Places.{HasCells};
 
 use crate::posts::Posts;
 use flag_relation::{Fact, Var};
 use num_domain::NumDomain;
+use std::alloc::Global;
 use std::marker::Model;
-use viper_word::Addr;
+use viper_word::{Addr, Memory};
 
 /// How many targets a jump may have at the most.
 pub(crate) const MOST_TARGETS: usize = 64;
@@ -62,7 +65,31 @@ impl<D> Model for Outcome<D> {
     } };
 }
 
+/// The first address of all.
+fn first_address() -> Addr {
+    match Addr::new(0) {
+        Some(first) => first,
+        None => unreachable!(),
+    }
+}
+
 impl<D: NumDomain> Outcome<D> {
+    /// A place for an outcome over so many cells. `Memory` for want of memory.
+    pub(crate) fn new(alloc: Global, cells: u8) -> Result<Outcome<D>, Memory>
+        requires { cells ≤ MOST_CELLS }
+        ensures { IfOk result (HasCells cells) }
+    {
+        let pre = Fact::new(alloc, cells)?;
+        let after = Fact::new(alloc, cells)?;
+        let posts = Posts::new(alloc, cells)?;
+        Ok(Outcome {
+            target: first_address(),
+            pre,
+            after,
+            posts,
+        })
+    }
+
     /// Becomes that outcome. Each part has as many cells as before.
     pub(crate) fn set(&mut self, target: Addr, pre: &Fact<D>, after: &Fact<D>, posts: &Posts)
         requires pre { length self.old.pre.cells ≡ length pre.now.cells }

@@ -5,8 +5,9 @@ ghost use Rattle.abs_step.specs.declared.outcome.Post.TheVariants.{Same};
 
 use crate::Post;
 use flag_relation::Reg;
+use std::alloc::Global;
 use std::marker::Model;
-use viper_word::Addr;
+use viper_word::{Addr, Memory};
 
 /// What an instruction does to A, X, Y and each cell. docs/METHOD.md, "Outcomes".
 #[derive(Drop)]
@@ -43,8 +44,27 @@ fn stay(cells: &[Addr], posts: &mut [Post])
 }
 
 impl Posts {
+    ghost use Rattle.std.specs.Prelude.{IfOk};
     ghost use Rattle.flag_relation.specs.Values.{with_reg, with_cell};
     ghost use Rattle.abs_step.specs.OutcomeLists.{all_same};
+
+    /// Room for so many cells. `Memory` for want of memory.
+    pub(crate) fn new(alloc: Global, cells: u8) -> Result<Posts, Memory>
+        ensures { IfOk result (λ p. length p.cells ≡ cells) }
+    {
+        let mut posts = Vec::new(alloc);
+        for _ in 0..cells {
+            if posts.push(Post::Same).is_err() {
+                return Err(Memory);
+            }
+        }
+        Ok(Posts {
+            a: Post::Same,
+            x: Post::Same,
+            y: Post::Same,
+            cells: posts,
+        })
+    }
 
     /// Says of each variable that it stays.
     pub(crate) fn stay(&mut self, cells: &[Addr])

@@ -3,7 +3,7 @@ use Rattle.std.proofs.lemmas.List.{length-set, length-take}
 use Rattle.abs_step.specs.OutcomeLists.{OutcomeOf}
 use Rattle.abs_step.specs.Places.{PlacesOf, HasCells}
 use Rattle.abs_step.proofs.PlaceLaws.{cells_at, cells_set}
-use Rattle.abs_step.proofs.scratch.Places.push.Goals as goal
+use Rattle.abs_step.proofs.places.Places.push.Goals as goal
 
 pub set-requires-clause-pre : goal.set-requires-clause-pre
 set-requires-clause-pre g c =
