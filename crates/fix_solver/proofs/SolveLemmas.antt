@@ -1,5 +1,5 @@
 -- A plan's own cells are few.
-use Rattle.std.proofs.Common.{◌≡◌, ℕ, ◌≤◌, ◌^◌, List, length, take, subst, sym, ap, arith}
+use Rattle.std.proofs.Common.{◌≡◌, ℕ, ◌≤◌, ◌^◌, List, length, take, subst, sym, arith}
 use Rattle.std.proofs.lemmas.List.{length-take}
 use Rattle.memory_plan.specs.Plans.{PlanLines}
 use Rattle.flag_relation.specs.declared.fact.TheConstants.{MOST_CELLS}

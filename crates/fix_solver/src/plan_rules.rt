@@ -4,10 +4,10 @@ ghost use Rattle.std.specs.Prelude.{◌≡◌, ◌<◌, ◌≤◌, cond, nat_le,
 ghost use Rattle.flag_relation.specs.declared.fact.TheConstants.{MOST_CELLS};
 ghost use Rattle.memory_plan.specs.Plans.{PlanLines};
 ghost use Rattle.fix_solver.specs.Solutions.{fields_at, arriving, arrival, start_at, rules_over};
-ghost use Rattle.fix_solver.specs.Rooms.{HasRoom};
+ghost use Rattle.fix_solver.specs.Rooms.{AllHave, Arrives, HasRoom};
 
 use crate::rules::Rules;
-use abs_step::{Cond, Outcome, Scratch, outcomes, start_fact};
+use abs_step::{Cond, Scratch, outcomes, start_fact};
 use flag_relation::{Fact, Spare};
 use flow_recover::{Context, Key, next_context};
 use memory_plan::Plan;
@@ -25,19 +25,23 @@ pub(crate) struct Hand<D> {
 }
 
 impl<D: NumDomain> Hand<D> {
-    /// Takes over what arrives at an outcome's target.
-    fn arrive(&mut self, at: Addr, out: &Outcome<D>, thresholds: &Thresholds)
-        requires fact { length self.old.fact.cells ≡ length out.now.after.cells }
+    /// Takes over what arrives at the target of an outcome, and answers the target.
+    fn arrive(&mut self, at: Addr, outs: &Scratch<D>, i: usize, thresholds: &Thresholds) -> Addr
+        requires within { i < length outs.now.outcomes }
+        requires outs { AllHave (length self.old.fact.cells) outs.now.outcomes }
         requires spare { self.old.spare ≡ length self.old.fact.cells }
-        ensures value { self.new.fact ≡ arriving D.domain thresholds.now at out.now }
+        ensures arrived { Arrives D.domain thresholds.now at
+            (slice_get outs.now.outcomes i) result self.new.fact }
         ensures count { length self.new.fact.cells ≡ length self.old.fact.cells }
         ensures spare { self.new.spare ≡ self.old.spare }
     {
+        let out = &outs.outcomes_in()[i];
         let Hand { fact, spare } = self;
         fact.copy_from(&out.after);
         if out.target <= at {
             fact.round(thresholds, spare);
         }
+        out.target
     }
 }
 
@@ -128,10 +132,9 @@ impl<'a, D: NumDomain> Rules for PlanRules<'a, D> {
     }
 
     fn outcome(&self, i: usize, room: &mut Room<D>) -> Key {
-        let out = &room.outs.outcomes_in()[i];
-        let target = out.target;
-        room.hand.arrive(room.key.addr, out, self.thresholds);
-        next_context(&room.key, fields_at(self.plan, room.key.addr), target)
+        let at = room.key.addr;
+        let target = room.hand.arrive(at, &room.outs, i, self.thresholds);
+        next_context(&room.key, fields_at(self.plan, at), target)
     }
 
     fn hand<'b>(&self, room: &'b Room<D>) -> &'b Fact<D> {

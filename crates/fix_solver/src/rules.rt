@@ -1,6 +1,6 @@
 //! Rules.
 
-ghost use Rattle.std.specs.Prelude.{◌≡◌, ◌<◌, List, length, slice_get, Some, None, not, IfOk, MatchResult};
+ghost use Rattle.std.specs.Prelude.{◌≡◌, ◌<◌, List, length, slice_get, Some, None, not, IfOk, OnOk, MatchResult};
 ghost use Rattle.fix_solver.specs.declared.at.At.{At};
 ghost use Rattle.fix_solver.specs.Rules.{Rules, RulesLaws, Fits};
 ghost use Rattle.fix_solver.specs.Tables.{joined};
@@ -52,7 +52,11 @@ pub trait Rules {
     ) -> Result<(), Cond>
         requires fits { Fits (meaning self.now) fact.now }
         requires room { has_room self.now scratch.old }
-        ensures outcomes { MatchResult result (λ _. ((meaning self.now).fault key.now fact.now ≡ None) × (held self.now scratch.new ≡ (meaning self.now).outcomes key.now fact.now)) (λ c. (meaning self.now).fault key.now fact.now ≡ Some c) }
+        ensures fault { MatchResult result
+            (λ _. (meaning self.now).fault key.now fact.now ≡ None)
+            (λ c. (meaning self.now).fault key.now fact.now ≡ Some c) }
+        ensures held { OnOk result
+            (held self.now scratch.new ≡ (meaning self.now).outcomes key.now fact.now) }
         ensures room { has_room self.now scratch.new };
 
     /// How many facts the scratch holds.

@@ -3,7 +3,7 @@ use Rattle.std.specs.Prelude.{◌≡◌, ℕ, ◌+◌, ◌^◌, Bool, true, fals
 use Rattle.std.specs.Prelude.{pos, nat_eq}
 use Rattle.std.proofs.Common.{refl, ap, subst, ◌∙◌, suc, set}
 use Rattle.std.proofs.lemmas.List.{length-set}
-use Rattle.std.specs.List.{AllByRecursion, flat_map, list_any}
+use Rattle.std.specs.List.{flat_map, list_any}
 use Rattle.num_domain.specs.Domain.{Domain, Below}
 use Rattle.num_domain.specs.Laws.{DomainLaws}
 use Rattle.viper_word.specs.Options.{bind}
@@ -33,7 +33,7 @@ use Rattle.abs_step.specs.OutcomeLists.{OutcomeOf, each, live, is_live, outcome}
 use Rattle.abs_step.specs.Stores.{Spot, spot, stored, store_one, store_several, joined_cells, source_link, unlinked}
 use Rattle.abs_step.specs.Outcomes.{flag_set, assigned, linked, linked_posts, jumps, is_target, taken_side, skipped_side, performed, instruction_outcomes}
 use Rattle.abs_step.specs.Conditions.{instruction_at, outcomes_at, outcomes}
-use Rattle.fix_solver.specs.Rooms.{HasSoMany, AllHave}
+use Rattle.fix_solver.specs.Rooms.{AllHave}
 
 pub same_length : {T U : Type 0} (R : T → U → Type 0) (ts : List T) (us : List U) → Pairwise R ts us → length ts ≡ length us
 same_length R [] [] h = refl

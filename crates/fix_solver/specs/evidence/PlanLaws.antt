@@ -11,7 +11,7 @@ use Rattle.memory_plan.specs.Plans.{PlanLines}
 use Rattle.memory_plan.specs.declared.start.Start.{Start}
 use Rattle.flag_relation.specs.Values.{Pairwise}
 use Rattle.flag_relation.specs.Facts.{FactOf, unknown}
-use Rattle.flag_relation.specs.Order.{BelowFact}
+use Rattle.flag_relation.specs.Order.{BelowFact, includes}
 use Rattle.flag_relation.specs.Joins.{join, join_values}
 use Rattle.flag_relation.specs.Rounding.{round}
 use Rattle.flag_relation.proofs.AllLaws.{fact_laws}
@@ -200,6 +200,6 @@ module _ {T : Type 0} (d : Domain T) (laws : DomainLaws d) where
 
   -- what was taken of a fact with so many cells has as many
   pub taken_have : (plan : PlanLines) (cells : List ℕ) (at : ℕ) (f : FactOf T) (os : List (OutcomeOf T)) (r : Result (Unit {0}) Cond) → length f.cells ≡ length cells
-      → MatchResult r (λ _. (fault d plan cells at f ≡ None) × (os ≡ outcomes d plan cells at f)) (λ c. (fault d plan cells at f ≡ Some c) × (os ≡ [])) → AllHave (length cells) os
-  taken_have plan cells at f os (Ok u) e h = subst (λ (l : List (OutcomeOf T)). AllHave (length cells) l) (sym h.1) (subst (λ (n : ℕ). AllHave n (outcomes d plan cells at f)) e (outcomes_have d laws plan cells at f))
-  taken_have plan cells at f os (Err c) e h = subst (λ (l : List (OutcomeOf T)). AllHave (length cells) l) (sym h.1) tt
+      → MatchResult r (λ _. os ≡ outcomes d plan cells at f) (λ _. os ≡ []) → AllHave (length cells) os
+  taken_have plan cells at f os (Ok u) e h = subst (λ (l : List (OutcomeOf T)). AllHave (length cells) l) (sym h) (subst (λ (n : ℕ). AllHave n (outcomes d plan cells at f)) e (outcomes_have d laws plan cells at f))
+  taken_have plan cells at f os (Err c) e h = subst (λ (l : List (OutcomeOf T)). AllHave (length cells) l) (sym h) tt

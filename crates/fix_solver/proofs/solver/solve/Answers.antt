@@ -1,4 +1,4 @@
-use Rattle.std.proofs.Common.{◌≡◌, ◌∙◌, sym, ap, length}
+use Rattle.std.proofs.Common.{◌∙◌}
 use Rattle.std.proofs.lemmas.Result.{err_from_is_err_and}
 use Rattle.fix_solver.proofs.SolveLemmas.{few_cells}
 use Rattle.fix_solver.proofs.solver.solve.Goals as goal

@@ -1,4 +1,4 @@
-use Rattle.std.proofs.Common.{◌≡◌, ◌∙◌}
+use Rattle.std.proofs.Common.{◌∙◌}
 use Rattle.fix_solver.specs.evidence.PlanLaws.{joined_is}
 use Rattle.fix_solver.proofs.plan_rules.PlanRulesRules.join.Goals as goal
 
