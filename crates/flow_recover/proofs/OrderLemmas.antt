@@ -74,8 +74,8 @@ one_order [] (y ∷ ys) r s c = absurd (some_not_none (once y y) (count y ys) (o
 one_order (x ∷ xs) [] r s c = absurd (some_not_none (once x x) (count x xs) (once_same x) (sym (c x)))
 one_order (x ∷ xs) (y ∷ ys) r s c =
     let same : x ≡ y = ⊎_elim (λ (l : int_lt x y ≡ true). absurd (not_below x xs y ys s.0 (c x) (lt_true x y l)))
-          (λ (l : int_lt x y ≡ false). ⊎_elim (λ (m : int_lt y x ≡ true). absurd (not_below y ys x xs r.0 (sym (c y)) (lt_true y x m))) (λ (m : int_lt y x ≡ false). neither x y l m) (cases_Bool (int_lt y x)))
-          (cases_Bool (int_lt x y)) in
+    (λ (l : int_lt x y ≡ false). ⊎_elim (λ (m : int_lt y x ≡ true). absurd (not_below y ys x xs r.0 (sym (c y)) (lt_true y x m))) (λ (m : int_lt y x ≡ false). neither x y l m) (cases_Bool (int_lt y x)))
+    (cases_Bool (int_lt x y)) in
     let rest : xs ≡ ys = one_order xs ys r.1 s.1 (λ q. cancelled (once q x) (count q xs) (once q y) (count q ys) (c q) (ap (once q) same)) in
     λ i. same i ∷ rest i
 

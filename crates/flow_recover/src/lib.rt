@@ -6,6 +6,8 @@
 mod cells;
 mod context;
 mod key;
+#[cfg(test)]
+mod tests;
 mod thresholds;
 
 pub use cells::cells_of;

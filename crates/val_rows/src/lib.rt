@@ -8,3 +8,5 @@
 mod facts;
 #[cfg(test)]
 mod steps;
+#[cfg(test)]
+mod solutions;
