@@ -2,14 +2,14 @@
 
 use abs_step::Cond;
 use fix_solver::{SolveFault, Solved, solve};
-use memory_plan::{Image, Plan, read_plan};
+use memory_plan::{Plan, read_image, read_plan};
 use std::alloc::Global;
 use std::test::Fail;
 use val_dom::Val;
-use viper_word::{Addr, GREATEST_SIGNED, LEAST_SIGNED, Word};
+use viper_word::{GREATEST_SIGNED, LEAST_SIGNED};
 
-/// What `solve` answers: so many keys, where a row says so after so many steps; a condition that fails
-/// at an address after these calls; or so many keys that are too many.
+/// What `solve` answers: so many keys, where a row says so after so many steps; a condition that
+/// fails at an address after these calls; or so many keys that are too many.
 #[derive(Clone, Copy)]
 enum Answer {
     Found(usize, Option<u64>),
@@ -17,77 +17,100 @@ enum Answer {
     TooMany(usize),
 }
 
-/// The words of a program from an address on, its plan, and the answer.
+/// The words of a program from an address on, where it starts and has a marker; further lines of its
+/// plan; what is known at its start; and the answer.
 struct Row {
     from: u32,
-    words: &'static [u32],
-    plan: &'static str,
+    words: &'static str,
+    lines: &'static str,
+    start: &'static str,
     answer: Answer,
 }
 
 macro_rules! rows {
-    ($($from:literal [$($word:literal)*] $plan:literal => $answer:ident $parts:tt;)*) => {
-        [$(Row { from: $from, words: &[$($word),*], plan: $plan, answer: Answer::$answer $parts }),*]
+    ($($from:literal $words:literal $lines:literal $start:literal => $answer:ident $parts:tt;)*) => {
+        [$(Row {
+            from: $from,
+            words: $words,
+            lines: $lines,
+            start: $start,
+            answer: Answer::$answer $parts,
+        }),*]
     };
 }
 
-// address, words, plan, answer
+// address, words, further lines, start, answer
 const ROWS: [Row; 21] = rows! {
     // a count up to the greatest word, and past it
-    0x0 [0x0050_0001 0x0030_0000 0x0630_0000] "code 00000 00002\nmarker 00000\nstart 00000 0..2147483647 any any any\n" => Fails(0x0, &[], Cond::C4);
-    0x0 [0x0050_0001 0x0030_0000 0x0630_0000] "code 00000 00002\nmarker 00000\nstart 00000 0..2147483646 any any any\n" => Found(3, None);
+    0x0 "00500001 00300000 06300000" "" "0..2147483647 any any any" => Fails(0x0, &[], Cond::C4);
+    0x0 "00500001 00300000 06300000" "" "0..2147483646 any any any" => Found(3, None);
     // reads below an address, and below 00000
-    0x100 [0x2030_0010 0x0630_0100] "code 00100 00101\ndata 00000 00010 any\nmarker 00100\nstart 00100 any -16..0 any any\n" => Found(2, None);
-    0x100 [0x2030_0010 0x0630_0100] "code 00100 00101\ndata 00000 00010 any\nmarker 00100\nstart 00100 any -17..0 any any\n" => Fails(0x100, &[], Cond::C3);
+    0x100 "20300010 06300100" "data 00000 00010 any\n" "any -16..0 any any"
+        => Found(2, None);
+    0x100 "20300010 06300100" "data 00000 00010 any\n" "any -17..0 any any"
+        => Fails(0x100, &[], Cond::C3);
     // the last address of all
-    0xF_FFFE [0x0030_0000 0x0630_0000] "code FFFFE FFFFF\nmarker FFFFE\nstart FFFFE any any any any\n" => Fails(0xF_FFFF, &[], Cond::C1);
+    0xF_FFFE "00300000 06300000" "" "any any any any" => Fails(0xF_FFFF, &[], Cond::C1);
     // an illegal word, a comparison with the same function, a jump by XOR
-    0x0 [0x00D0_0000 0x0630_0000] "code 00000 00001\nmarker 00000\nstart 00000 any any any any\n" => Fails(0x0, &[], Cond::C2);
-    0x0 [0x01D0_0000 0x0630_0000] "code 00000 00001\nmarker 00000\nstart 00000 any any any any\n" => Found(2, None);
-    0x0 [0x0880_0000 0x0630_0000] "code 00000 00001\nmarker 00000\nstart 00000 any any any 0\n" => Fails(0x0, &[], Cond::C2);
+    0x0 "00D00000 06300000" "" "any any any any" => Fails(0x0, &[], Cond::C2);
+    0x0 "01D00000 06300000" "" "any any any any" => Found(2, None);
+    0x0 "08800000 06300000" "" "any any any 0" => Fails(0x0, &[], Cond::C2);
     // a jump that is skipped, and one that may be taken
-    0x0 [0x2830_0000 0x0630_0000] "code 00000 00001\nmarker 00000\nstart 00000 any -1 any 0\n" => Found(2, None);
-    0x0 [0x2830_0000 0x0630_0000] "code 00000 00001\nmarker 00000\nstart 00000 any -1 any any\n" => Fails(0x0, &[], Cond::C3);
+    0x0 "28300000 06300000" "" "any -1 any 0" => Found(2, None);
+    0x0 "28300000 06300000" "" "any -1 any any" => Fails(0x0, &[], Cond::C3);
     // one procedure, three calls
-    0x0 [0x0610_0004 0x0610_0004 0x0610_0004 0x0630_0000 0x8650_0000] "code 00000 00004\nmarker 00000\nstart 00000 any any any any\n" => Found(7, Some(7));
+    0x0 "06100004 06100004 06100004 06300000 86500000" "" "any any any any" => Found(7, Some(7));
     // a return to 256 addresses
-    0x0 [0x0610_0004 0x0610_0004 0x0610_0004 0x0630_0000 0x1420_0010 0x8650_0000] "code 00000 00005\ninput 00010 00010 0..255\nmarker 00000\nstart 00000 any any any any\n" => Fails(0x5, &[0x1], Cond::C5);
+    0x0 "06100004 06100004 06100004 06300000 14200010 86500000" "input 00010 00010 0..255\n"
+        "any any any any" => Fails(0x5, &[0x1], Cond::C5);
     // a counter in memory, a chain of flags
-    0x0 [0x0030_000A 0x1E00_0100 0x1030_0100 0x0070_0001 0x1E00_0100 0x0120_0000 0x0A30_0002 0x0630_0000] "code 00000 00007\ndata 00100 00100 0..10\nmarker 00000\nstart 00000 any any any any\n" => Found(8, None);
-    0x0 [0x1220_0020 0x4100_0000 0x41D0_000A 0x0830_0005 0x2030_0100 0x0630_0000] "code 00000 00005\ndata 00100 0010A any\ninput 00020 00020 any\nmarker 00000\nstart 00000 any any any any\n" => Found(6, None);
+    0x0 "0030000A 1E000100 10300100 00700001 1E000100 01200000 0A300002 06300000"
+        "data 00100 00100 0..10\n" "any any any any" => Found(8, None);
+    0x0 "12200020 41000000 41D0000A 08300005 20300100 06300000"
+        "data 00100 0010A any\ninput 00020 00020 any\n" "any any any any" => Found(6, None);
     // a store into code, and one out of its range
-    0x0 [0x1E00_0000 0x0630_0000] "code 00000 00001\nmarker 00000\nstart 00000 any any any any\n" => Fails(0x0, &[], Cond::C6);
-    0x0 [0x1E00_0100 0x0630_0000] "code 00000 00001\ndata 00100 00100 0..10\nmarker 00000\nstart 00000 any any any any\n" => Fails(0x0, &[], Cond::C6);
+    0x0 "1E000000 06300000" "" "any any any any" => Fails(0x0, &[], Cond::C6);
+    0x0 "1E000100 06300000" "data 00100 00100 0..10\n" "any any any any"
+        => Fails(0x0, &[], Cond::C6);
     // a loop that waits for a peripheral
-    0x0 [0x0030_0000 0x1020_0000 0x0120_0000 0x0830_0001 0x0630_0000] "code 00000 00004\ninput 00000 00000 0..1\nmarker 00000\nmarker 00001\nstart 00000 any any any any\n" => Found(5, None);
+    0x0 "00300000 10200000 01200000 08300001 06300000" "input 00000 00000 0..1\nmarker 00001\n"
+        "any any any any" => Found(5, None);
     // a count down from ten
-    0x0 [0x0030_000A 0x0070_0001 0x0120_0000 0x0A30_0001 0x0630_0000] "code 00000 00004\nmarker 00000\nstart 00000 any any any any\n" => Found(5, Some(14));
-    // two starts at one address: the facts are joined
-    0x0 [0x0050_0001 0x0030_0000 0x0630_0000] "code 00000 00002\nmarker 00000\nstart 00000 0..5 any any any\nstart 00000 2147483647 any any any\n" => Fails(0x0, &[], Cond::C4);
-    0x0 [0x0050_0001 0x0030_0000 0x0630_0000] "code 00000 00002\nmarker 00000\nstart 00000 0..5 any any any\nstart 00000 7 any any any\n" => Found(3, None);
+    0x0 "0030000A 00700001 01200000 0A300001 06300000" "" "any any any any" => Found(5, Some(14));
+    // two starts at one address: their facts are joined
+    0x0 "00500001 00300000 06300000" "" "0..5 any any any\nstart 00000 2147483647 any any any"
+        => Fails(0x0, &[], Cond::C4);
+    0x0 "00500001 00300000 06300000" "" "0..5 any any any\nstart 00000 7 any any any"
+        => Found(3, None);
     // eight procedures one in the other, each with four calls of the next
-    0x0 [
-        0x0610_0002 0x0630_0000
-        0x9E00_0101 0x0610_0009 0x0610_0009 0x0610_0009 0x0610_0009 0x1430_0101 0x8650_0000
-        0x9E00_0102 0x0610_0010 0x0610_0010 0x0610_0010 0x0610_0010 0x1430_0102 0x8650_0000
-        0x9E00_0103 0x0610_0017 0x0610_0017 0x0610_0017 0x0610_0017 0x1430_0103 0x8650_0000
-        0x9E00_0104 0x0610_001E 0x0610_001E 0x0610_001E 0x0610_001E 0x1430_0104 0x8650_0000
-        0x9E00_0105 0x0610_0025 0x0610_0025 0x0610_0025 0x0610_0025 0x1430_0105 0x8650_0000
-        0x9E00_0106 0x0610_002C 0x0610_002C 0x0610_002C 0x0610_002C 0x1430_0106 0x8650_0000
-        0x9E00_0107 0x0610_0033 0x0610_0033 0x0610_0033 0x0610_0033 0x1430_0107 0x8650_0000
-        0x9E00_0108 0x0610_003A 0x0610_003A 0x0610_003A 0x0610_003A 0x1430_0108 0x8650_0000
-        0x8650_0000
-    ] "code 00000 0003A\ndata 00101 00108 0..255\nmarker 00000\nstart 00000 any any any any\n" => TooMany(65_537);
+    0x0 "06100002 06300000 \
+        9E000101 06100009 06100009 06100009 06100009 14300101 86500000 \
+        9E000102 06100010 06100010 06100010 06100010 14300102 86500000 \
+        9E000103 06100017 06100017 06100017 06100017 14300103 86500000 \
+        9E000104 0610001E 0610001E 0610001E 0610001E 14300104 86500000 \
+        9E000105 06100025 06100025 06100025 06100025 14300105 86500000 \
+        9E000106 0610002C 0610002C 0610002C 0610002C 14300106 86500000 \
+        9E000107 06100033 06100033 06100033 06100033 14300107 86500000 \
+        9E000108 0610003A 0610003A 0610003A 0610003A 14300108 86500000 \
+        86500000"
+        "data 00101 00108 0..255\n" "any any any any" => TooMany(65_537);
 };
 
 /// The plan of a row over its words.
 fn plan_of(alloc: Global, row: &Row) -> Result<Plan, Fail> {
-    let mut image = Image::new(alloc);
-    for (i, word) in row.words.iter().enumerate() {
-        let at = Addr::new(row.from.saturating_add(i as u32)).ok_or("an address")?;
-        image.put(at, Word(*word))?;
+    let mut text = String::new(alloc);
+    let mut to = row.from;
+    for (i, word) in row.words.split(' ').enumerate() {
+        to = row.from.saturating_add(i as u32);
+        let line = format!(in alloc; "{to:05X} {word}\n")?;
+        text.push_str(&line)?;
     }
-    Ok(read_plan(alloc, row.plan.as_bytes(), &image)?)
+    let image = read_image(alloc, text.as_bytes())?;
+    let from = row.from;
+    let (lines, start) = (row.lines, row.start);
+    let plan = format!(in alloc;
+        "code {from:05X} {to:05X}\n{lines}marker {from:05X}\nstart {from:05X} {start}\n")?;
+    Ok(read_plan(alloc, plan.as_bytes(), &image)?)
 }
 
 /// Does the fault say that?
@@ -108,8 +131,8 @@ fn programs_are_solved_or_not(rt: HostRuntime) -> Result<(), Fail> {
     for row in &ROWS {
         let plan = plan_of(rt.alloc(), row)?;
         match solve::<Val>(rt.alloc(), &plan) {
-            Ok(solved) => assert!(rt; is_found(&solved, &row.answer), "{}", row.plan),
-            Err(fault) => assert!(rt; is_fault(&fault, &row.answer), "{}", row.plan),
+            Ok(solved) => assert!(rt; is_found(&solved, &row.answer), "{}", row.words),
+            Err(fault) => assert!(rt; is_fault(&fault, &row.answer), "{}", row.words),
         }
     }
     Ok(())
