@@ -4,13 +4,13 @@ use flow_recover::Key;
 use std::alloc::{AllocError, AllocFailed};
 use viper_word::Memory;
 
-/// Why there is no solution.
+/// Why a plan has no solution, or none was found (docs/METHOD.md, "What a refusal says").
 #[derive(Drop)]
 pub enum SolveFault {
-    /// This condition fails at this key in every candidate.
+    /// This condition, of C1 to C7, fails at this key in every candidate.
     Undischarged(Key, Cond),
 
-    /// These 65,537 keys stand in every candidate.
+    /// These 65,537 keys, all different, stand in every candidate.
     Nodes(Vec<Key>),
 
     /// Want of memory.

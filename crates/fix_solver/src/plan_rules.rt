@@ -103,7 +103,8 @@ impl<'a, D: NumDomain> Rules for PlanRules<'a, D> {
 
     ghost has_room = { λ s r. HasRoom (length s.cells.now) r };
 
-    ghost held = { λ s r. map (arrival D.domain s.plan.now s.thresholds.now r.key) r.outs.outcomes };
+    ghost held = { λ s r.
+        map (arrival D.domain s.plan.now s.thresholds.now r.key) r.outs.outcomes };
 
     ghost in_hand = { λ r. r.hand.fact };
 

@@ -39,7 +39,8 @@ pub trait Rules {
     fn start(&self, i: usize, scratch: &mut Self::Scratch) -> Key
         requires within { i < length (meaning self.now).starts }
         requires room { has_room self.now scratch.old }
-        ensures start { slice_get (meaning self.now).starts i ≡ Some (record { key = result; fact = in_hand scratch.new }) }
+        ensures start { slice_get (meaning self.now).starts i
+            ≡ Some (record { key = result; fact = in_hand scratch.new }) }
         ensures room { has_room self.now scratch.new };
 
     /// Puts into the scratch what follows from the fact at the key, or answers the first condition
@@ -67,7 +68,8 @@ pub trait Rules {
     fn outcome(&self, i: usize, scratch: &mut Self::Scratch) -> Key
         requires within { i < length (held self.now scratch.old) }
         requires room { has_room self.now scratch.old }
-        ensures outcome { slice_get (held self.now scratch.old) i ≡ Some (record { key = result; fact = in_hand scratch.new }) }
+        ensures outcome { slice_get (held self.now scratch.old) i
+            ≡ Some (record { key = result; fact = in_hand scratch.new }) }
         ensures same { held self.now scratch.new ≡ held self.now scratch.old }
         ensures room { has_room self.now scratch.new };
 

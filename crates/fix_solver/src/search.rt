@@ -14,9 +14,9 @@ ghost use Rattle.fix_solver.specs.Faults.{IsTrueFault, IsMemory};
 ghost use Rattle.fix_solver.specs.Work.{IsWork, IsGiven, IsPaid, IsFull};
 
 use crate::fault::SolveFault;
+use crate::found::Found;
 use crate::pending::Pending;
 use crate::rules::Rules;
-use crate::found::Found;
 use crate::table::{MOST_KEYS, Table};
 use flow_recover::Key;
 use std::alloc::Global;
@@ -33,7 +33,8 @@ fn give<R: Rules>(
 ) -> Result<u32, SolveFault>
     requires fit { AllByRecursion (λ e. Fits (R.meaning rules.now) e.fact) table.old.known }
     requires fits { Fits (R.meaning rules.now) fact.now }
-    ensures given { IfOk result (IsGiven (R.meaning rules.now) table.old pending.old (record { key = key; fact = fact.now }) table.new pending.new) }
+    ensures given { IfOk result (IsGiven (R.meaning rules.now) table.old pending.old
+        (record { key = key; fact = fact.now }) table.new pending.new) }
     ensures fault { IfErr result (IsFull table.old.known key) }
 {
     match table.number(&key) {
@@ -66,11 +67,14 @@ fn apply<R: Rules>(
     key: &Key,
     scratch: &mut R::Scratch,
 ) -> Result<(), SolveFault>
-    requires work { IsWork (R.meaning rules.now) table.old (λ k. same_key key.now k || is_pending pending.old k) }
+    requires work { IsWork (R.meaning rules.now) table.old
+        (λ k. same_key key.now k || is_pending pending.old k) }
     requires room { R.has_room rules.now scratch.old }
     ensures work { OnOk result (IsWork (R.meaning rules.now) table.new (is_pending pending.new)) }
-    ensures grows { OnOk result (MapBelow (R.meaning rules.now) (fact_at table.old.known) (fact_at table.new.known)) }
-    ensures paid { OnOk result (IsPaid (R.meaning rules.now) table.old pending.old table.new pending.new) }
+    ensures grows { OnOk result (MapBelow (R.meaning rules.now)
+        (fact_at table.old.known) (fact_at table.new.known)) }
+    ensures paid { OnOk result
+        (IsPaid (R.meaning rules.now) table.old pending.old table.new pending.new) }
     ensures room { R.has_room rules.now scratch.new }
     ensures fault { IfErr result (IsTrueFault (R.meaning rules.now)) }
 {
@@ -101,8 +105,10 @@ fn run<R: Rules>(
     requires work { IsWork (R.meaning rules.now) table.old (is_pending pending.old) }
     requires room { R.has_room rules.now scratch.old }
     ensures work { OnOk result (IsWork (R.meaning rules.now) table.new (is_pending pending.new)) }
-    ensures grows { OnOk result (MapBelow (R.meaning rules.now) (fact_at table.old.known) (fact_at table.new.known)) }
-    ensures ends { OnOk result ((length table.old.known < length table.new.known) ⊎ ((length table.new.known ≡ length table.old.known) × (pending.new ≡ []))) }
+    ensures grows { OnOk result (MapBelow (R.meaning rules.now)
+        (fact_at table.old.known) (fact_at table.new.known)) }
+    ensures ends { OnOk result ((length table.old.known < length table.new.known)
+        ⊎ ((length table.new.known ≡ length table.old.known) × (pending.new ≡ []))) }
     ensures few { OnOk result (length table.new.known ≤ 65536) }
     ensures room { R.has_room rules.now scratch.new }
     ensures fault { IfErr result (IsTrueFault (R.meaning rules.now)) }
@@ -149,16 +155,18 @@ fn find<R: Rules>(
     Ok(table)
 }
 
-/// The least solution of the rules, in which all conditions hold at every key, or why there is none.
-/// Where there is a solution with at most 65,536 keys, only memory can be wanting. Takes the least
-/// pending key first.
+/// The least solution of the rules, in which all conditions hold at every key, or why there is
+/// none. Where there is a solution with at most 65,536 keys, only memory can be wanting. Takes the
+/// least pending key first.
 pub(crate) fn least<R: Rules>(
     alloc: Global,
     rules: &R,
     scratch: &mut R::Scratch,
 ) -> Result<Found<R::Fact>, SolveFault>
     requires { R.has_room rules.now scratch.old }
-    ensures complete { (m : Key → Option R.Fact) (ks : List Key) → IsSolution (R.meaning rules.now) m → HasKeys m ks → length ks ≤ MOST_KEYS → IfErr result IsMemory }
+    ensures complete { (m : Key → Option R.Fact) (ks : List Key)
+        → IsSolution (R.meaning rules.now) m → HasKeys m ks → length ks ≤ MOST_KEYS
+        → IfErr result IsMemory }
     ensures solved { IfOk result (λ s. IsSolved (R.meaning rules.now) s.nodes) }
     ensures fault { IfErr result (IsTrueFault (R.meaning rules.now)) }
 {

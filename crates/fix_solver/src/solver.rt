@@ -49,10 +49,10 @@ fn least_over<D: NumDomain>(
     least(alloc, &rules, &mut room)
 }
 
-/// The least solution of a plan, in which C1 to C7 hold at every key; or a condition that fails at a
-/// key in every candidate, or 65,537 keys that stand in every candidate, or want of memory. Where
-/// there is a solution with at most 65,536 keys, only memory can be wanting. docs/METHOD.md, "The
-/// least solution".
+/// The least solution of a plan, in which C1 to C7 hold at every key; or a condition that fails at
+/// a key in every candidate (`Undischarged`), or 65,537 keys that stand in every candidate
+/// (`Nodes`), or want of memory. Where there is a solution with at most 65,536 keys, only memory
+/// can be wanting. docs/METHOD.md, "The least solution".
 pub fn solve<D: NumDomain>(alloc: Global, plan: &Plan) -> Result<Solved<D>, SolveFault>
     ensures complete { (m : Key → Option (FactOf D)) (ks : List Key)
         → IsSolution (plan_rules D.domain plan.now) m → HasKeys m ks

@@ -25,8 +25,8 @@ fn names_memory(i: Fields) -> bool
             || (is_function(i) && !(i.f == function::INP || i.f == function::SHIFT)))
 }
 
-/// The cell that a word of the image names. None exactly where it isn't in code, or names no address
-/// of data.
+/// The cell that a word of the image names. None exactly where it isn't in code, or names no
+/// address of data.
 fn named(plan: &Plan, at: Addr, word: Word) -> Option<Addr>
     ensures { result ≡ named_by plan.now (at, word.0) }
 {

@@ -133,8 +133,13 @@ const NEAREST: [(i64, i64, i64); 9] = [
 
 #[test]
 fn thresholds_are_the_plans_numbers(rt: HostRuntime) -> Result<(), Fail> {
-    let lines =
-        "code 00000 00001\ndata 00100 00100 -9..7\ninput 00000 00000 4..9\noutput 00001 00001 11..30\nmarker 00000\nstart 00000 50 any any any\nthreshold 77\n";
+    let lines = "code 00000 00001\n\
+        data 00100 00100 -9..7\n\
+        input 00000 00000 4..9\n\
+        output 00001 00001 11..30\n\
+        marker 00000\n\
+        start 00000 50 any any any\n\
+        threshold 77\n";
     let plan = plan_of(rt.alloc(), &[0x0030_0010, 0x0630_0000], lines)?;
     let thresholds = thresholds_of(rt.alloc(), &plan)?;
     for (n, below, above) in &NEAREST {

@@ -87,8 +87,9 @@ fn numbers_of(alloc: Global, plan: &Plan) -> Result<Vec<i64>, AllocError>
 }
 
 /// The numbers that facts are rounded to: both ends of the signed words; -1, 0 and 1; the field of
-/// each word of code, that number less 1 and plus 1; both ends of the ranges of data, inputs, outputs
-/// and starts; and the plan's thresholds. docs/METHOD.md, "Thresholds". `Memory` for want of memory.
+/// each word of code, that number less 1 and plus 1; both ends of the ranges of data, inputs,
+/// outputs and starts; and the plan's thresholds. docs/METHOD.md, "Thresholds". `Memory` for want
+/// of memory.
 pub fn thresholds_of(alloc: Global, plan: &Plan) -> Result<Thresholds, Memory>
     ensures { IfOk result (λ t. t ≡ thresholds_of plan.now) }
 {

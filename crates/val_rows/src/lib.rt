@@ -7,6 +7,6 @@
 #[cfg(test)]
 mod facts;
 #[cfg(test)]
-mod steps;
-#[cfg(test)]
 mod solutions;
+#[cfg(test)]
+mod steps;

@@ -17,8 +17,8 @@ enum Answer {
     TooMany(usize),
 }
 
-/// The words of a program from an address on, where it starts and has a marker; further lines of its
-/// plan; what is known at its start; and the answer.
+/// The words of a program from an address on, where it starts and has a marker; further lines of
+/// its plan; what is known at its start; and the answer.
 struct Row {
     from: u32,
     words: &'static str,
@@ -109,7 +109,8 @@ fn plan_of(alloc: Global, row: &Row) -> Result<Plan, Fail> {
     let from = row.from;
     let (lines, start) = (row.lines, row.start);
     let plan = format!(in alloc;
-        "code {from:05X} {to:05X}\n{lines}marker {from:05X}\nstart {from:05X} {start}\n")?;
+        "code {from:05X} {to:05X}\n{lines}marker {from:05X}\nstart {from:05X} {start}\n"
+    )?;
     Ok(read_plan(alloc, plan.as_bytes(), &image)?)
 }
 
@@ -119,7 +120,12 @@ fn is_fault(fault: &SolveFault, answer: &Answer) -> bool {
         (SolveFault::Undischarged(key, cond), Answer::Fails(at, calls, wanted)) => {
             key.addr.get() == *at
                 && cond == wanted
-                && key.context.addrs().iter().map(|a| a.get()).eq(calls.iter().copied())
+                && key
+                    .context
+                    .addrs()
+                    .iter()
+                    .map(|a| a.get())
+                    .eq(calls.iter().copied())
         }
         (SolveFault::Nodes(keys), Answer::TooMany(count)) => keys.len() == *count,
         _ => false,
@@ -187,7 +193,13 @@ fn each_key_has_its_fact_and_its_successors(rt: HostRuntime) -> Result<(), Fail>
         for (i, (at, calls, (lo, hi), next)) in keys.iter().enumerate() {
             let key = solved.key(i);
             assert_eq!(rt; key.addr.get(), *at);
-            assert!(rt; key.context.addrs().iter().map(|a| a.get()).eq(calls.iter().copied()));
+            assert!(rt;
+                key.context
+                    .addrs()
+                    .iter()
+                    .map(|a| a.get())
+                    .eq(calls.iter().copied())
+            );
             let a = solved.fact(i).a.pair.left;
             assert_eq!(rt; (a.lo, a.hi), (*lo, *hi));
             assert_eq!(rt; solved.succ(i), *next);

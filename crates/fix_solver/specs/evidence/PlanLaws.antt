@@ -125,7 +125,7 @@ module _ {T : Type 0} (d : Domain T) (laws : DomainLaws d) (plan : PlanLines) (c
   some_larger k o (p ∷ os) (inl h) = inl (
     ap (λ (n : ℕ). next_context k (fields_at plan k.addr) n) (sym h.target),
     from_fact (arriving d t k.addr o) (arriving d t k.addr p)
-    (subst (λ (n : ℕ). BelowFact d (arriving d t k.addr o) (cond (nat_le n k.addr) (round d t p.after) p.after)) h.target (rounded_below (nat_le o.target k.addr) o.after p.after h.after)),
+        (subst (λ (n : ℕ). BelowFact d (arriving d t k.addr o) (cond (nat_le n k.addr) (round d t p.after) p.after)) h.target (rounded_below (nat_le o.target k.addr) o.after p.after h.after)),
   )
   some_larger k o (p ∷ os) (inr h) = inr (some_larger k o os h)
 
@@ -176,7 +176,7 @@ module _ {T : Type 0} (d : Domain T) (laws : DomainLaws d) where
   all_included plan [] h = tt
   all_included plan (e ∷ es) h = (
     from_fact d laws plan (cells_of plan) (thresholds_of plan) e.fact (unknown d (length (cells_of plan)))
-    (unknown_above e.fact (length (cells_of plan)) (count d laws plan (cells_of plan) (thresholds_of plan) e.fact h.0)),
+        (unknown_above e.fact (length (cells_of plan)) (count d laws plan (cells_of plan) (thresholds_of plan) e.fact h.0)),
     all_included plan es h.1,
   )
 
