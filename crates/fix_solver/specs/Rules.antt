@@ -53,7 +53,9 @@ pub record RulesLaws {F : Type 0} (r : Rules F) : Type 0 where
   pub height_falls : (f g : F) → Fits r f → Below r f g → r.includes f g ≡ false → r.height g < r.height f
   pub starts_fit : AllByRecursion (λ e. Fits r e.fact) r.starts
   pub outcomes_fit : (k : Key) (f : F) → Fits r f → AllByRecursion (λ e. Fits r e.fact) (r.outcomes k f)
-  pub outcomes_grow : (k : Key) (f g : F) → Fits r f → Below r f g → AllBelow r (r.outcomes k f) (r.outcomes k g)
-  pub keeps_falls : (k : Key) (f g : F) (c : Cond) → Fits r f → Below r f g → r.keeps k g c ≡ true → r.keeps k f c ≡ true
+  pub outcomes_grow : (k : Key) (f g : F) → Fits r f → Below r f g
+      → AllBelow r (r.outcomes k f) (r.outcomes k g)
+  pub keeps_falls : (k : Key) (f g : F) (c : Cond) → Fits r f → Below r f g
+      → r.keeps k g c ≡ true → r.keeps k f c ≡ true
   pub fault_breaks : (k : Key) (f : F) → IfSome (r.fault k f) (λ c. r.keeps k f c ≡ false)
   pub no_fault_keeps : (k : Key) (f : F) → r.fault k f ≡ None → (c : Cond) → r.keeps k f c ≡ true

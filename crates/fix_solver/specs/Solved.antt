@@ -53,11 +53,13 @@ module _ {F : Type 0} where
     pub moves : ArePlaces (keys_of t.known) (keys_of (facts_of ns)) places
     pub rows : AreRows (keys_of t.known) places t.succ (keys_of (facts_of ns)) (rows_of ns)
 
--- at most 65,536 keys, which ascend; the facts are the least solution, and beside each key stand the numbers of the
--- keys that its outcomes lead to, ascending, each once
+-- The answer: keys that ascend, not too many; the least solution, whose facts have as many cells as
+-- the rules ask; and beside each key the numbers of the keys that its outcomes lead to, ascending,
+-- each once.
 pub record IsSolved {F : Type 0} (r : Rules F) (ns : List (NodeOf F)) : Type 0 where
   pub few : length ns ≤ MOST_KEYS
   pub ascending : IsStrictlySortedBy key_cmp (keys_of (facts_of ns))
   pub fit : AllByRecursion (λ n. Fits r n.fact) ns
   pub least : IsLeastSolution r (fact_at (facts_of ns))
-  pub succ : AllByRecursion (λ n. IsSetOf n.succ (map (λ e. place (facts_of ns) e.key) (r.outcomes n.key n.fact))) ns
+  pub succ : AllByRecursion
+      (λ n. IsSetOf n.succ (map (λ e. place (facts_of ns) e.key) (r.outcomes n.key n.fact))) ns

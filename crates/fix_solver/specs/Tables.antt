@@ -5,6 +5,7 @@ use Rattle.std.specs.List.{IsDistinct}
 use Rattle.flow_recover.specs.declared.key.Key.{Key}
 use Rattle.flow_recover.specs.Keys.{same_key}
 use Rattle.fix_solver.specs.declared.at.At.{At}
+use Rattle.fix_solver.specs.declared.table.TheConstants.{MOST_KEYS}
 use Rattle.fix_solver.specs.Rules.{Rules}
 
 -- the facts found so far, and beside each the numbers of the keys that follow from it
@@ -47,7 +48,7 @@ module _ {F : Type 0} where
     pub keys : numbers ≡ keys_of es
     pub distinct : IsDistinct same_key numbers
     pub rows : n ≡ length es
-    pub few : length es ≤ 65536
+    pub few : length es ≤ MOST_KEYS
 
 module _ {F : Type 0} (r : Rules F) where
   -- the fact joined with the other, where it doesn't include it
@@ -57,7 +58,9 @@ module _ {F : Type 0} (r : Rules F) where
   -- the facts after one more is given: its key keeps its place, or is found last
   abbrev pub given : List (At F) → At F → List (At F)
   given [] e = e ∷ []
-  given (x ∷ xs) e = cond (same_key e.key x.key) (record { key = x.key; fact = joined x.fact e.fact } ∷ xs) (x ∷ given xs e)
+  given (x ∷ xs) e =
+      cond (same_key e.key x.key)
+      (record { key = x.key; fact = joined x.fact e.fact } ∷ xs) (x ∷ given xs e)
 
   -- the heights of all facts
   abbrev pub heights : List (At F) → ℕ

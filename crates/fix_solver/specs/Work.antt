@@ -6,6 +6,7 @@ use Rattle.flow_recover.specs.Keys.{same_key}
 use Rattle.fix_solver.specs.declared.at.At.{At}
 use Rattle.fix_solver.specs.declared.fault.SolveFault.{SolveFault}
 use Rattle.fix_solver.specs.declared.fault.SolveFault.TheVariants.{Undischarged, Nodes, Memory}
+use Rattle.fix_solver.specs.declared.table.TheConstants.{MOST_KEYS}
 use Rattle.fix_solver.specs.Pending.{is_pending}
 use Rattle.fix_solver.specs.Rules.{Rules, Fits, Included, MapBelow}
 use Rattle.fix_solver.specs.Solutions.{IsCandidate}
@@ -35,10 +36,13 @@ module _ {F : Type 0} (r : Rules F) where
 
   -- a key is new, or no more is left to do than before
   abbrev pub IsPaid : TableOf F → List Key → TableOf F → List Key → Type 0
-  IsPaid t p u q = (length t.known < length u.known) ⊎ ((length u.known ≡ length t.known) × (work_left u q ≤ work_left t p))
+  IsPaid t p u q =
+      (length t.known < length u.known)
+      ⊎ ((length u.known ≡ length t.known) × (work_left u q ≤ work_left t p))
 
   -- the fact was given to the table, and its key is pending if that changed; n is its number
-  pub record IsGiven (t : TableOf F) (p : List Key) (e : At F) (u : TableOf F) (q : List Key) (n : ℕ) : Type 0 where
+  pub record IsGiven (t : TableOf F) (p : List Key) (e : At F)
+      (u : TableOf F) (q : List Key) (n : ℕ) : Type 0 where
     pub known : u.known ≡ given r t.known e
     pub succ : (i : ℕ) → i < length t.known → slice_index_or u.succ i [] ≡ slice_index_or t.succ i []
     pub puts : ((u ≡ t) × (q ≡ p)) ⊎ ((k : Key) → is_pending q k ≡ (same_key e.key k || is_pending p k))
@@ -48,5 +52,7 @@ module _ {F : Type 0} (r : Rules F) where
 -- the known keys and one more are too many
 abbrev pub IsFull : {F : Type 0} → List (At F) → Key → SolveFault → Type 0
 IsFull es k (Undischarged l c) = ⊥
-IsFull es k (Nodes ks) = (length ks.items ≡ 65537) × IsDistinct same_key ks.items × (ks.items ≡ keys_of es ++ k ∷ [])
+IsFull es k (Nodes ks) =
+    (length ks.items ≡ MOST_KEYS + 1) × IsDistinct same_key ks.items
+    × (ks.items ≡ keys_of es ++ k ∷ [])
 IsFull es k Memory = Unit {0}

@@ -109,7 +109,7 @@ fn run<R: Rules>(
         (fact_at table.old.known) (fact_at table.new.known)) }
     ensures ends { OnOk result ((length table.old.known < length table.new.known)
         ⊎ ((length table.new.known ≡ length table.old.known) × (pending.new ≡ []))) }
-    ensures few { OnOk result (length table.new.known ≤ 65536) }
+    ensures few { OnOk result (length table.new.known ≤ MOST_KEYS) }
     ensures room { R.has_room rules.now scratch.new }
     ensures fault { IfErr result (IsTrueFault (R.meaning rules.now)) }
 {
