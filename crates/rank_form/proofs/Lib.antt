@@ -1,0 +1,17 @@
+pub mod Products
+pub mod Weighing
+pub mod Summing
+pub mod Alikes
+pub mod Merging
+pub mod Bounding
+pub mod UpperLaws
+pub mod AfterLaws
+pub mod Spellings
+pub mod StateLaws
+pub mod RankLaws
+pub mod Limits
+pub mod FirstTerm
+pub mod Rating
+pub mod CodeLaws
+pub mod Pushing
+pub mod Ordering

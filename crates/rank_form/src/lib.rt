@@ -1,0 +1,20 @@
+//! Forms: numbers that are linear in registers and cells, with their bounds over facts and outcomes.
+//!
+//! The ranks of a certificate are forms. What they are at the most and at the least over a fact, and
+//! by how much they may rise over an outcome, decides whether they rank. Nothing here takes memory.
+//! docs/METHOD.md, "Forms", has the rules in words, with an example.
+#![tactic(auto)]
+
+mod levels;
+mod bound;
+mod form;
+mod laws;
+mod step;
+mod place;
+mod rates;
+mod terms;
+
+pub use step::{after, upper_after};
+pub use form::{falls_by, lower, rise, upper};
+pub use laws::{bound_laws, form_laws};
+pub use levels::{direction, level, shift};
