@@ -1,5 +1,5 @@
 -- Forms after a step: sums, multiples and numbers.
-use Rattle.std.specs.Prelude.{◌≡◌, ℤ, pos, ◌+ℤ◌, ◌*ℤ◌, ◌≤ℤ◌, List, [], ◌++◌, length, Option}
+use Rattle.std.specs.Prelude.{◌≡◌, ℤ, pos, ◌+ℤ◌, ◌*ℤ◌, ◌≤ℤ◌, List, ◌++◌, length, Option}
 use Rattle.std.proofs.Common.{refl, arith, sym, ap, subst}
 use Rattle.std.proofs.lemmas.Int.{ints}
 use Rattle.num_domain.specs.Domain.{Domain}
@@ -8,7 +8,7 @@ use Rattle.flag_relation.specs.declared.var.Var.{Var}
 use Rattle.flag_relation.specs.Forms.{FormOf}
 use Rattle.abs_step.specs.declared.outcome.Post.{Post}
 use Rattle.abs_step.specs.declared.outcome.Post.TheVariants.{Same, Plus, Within}
-use Rattle.rank_form.specs.Weights.{weigh, rate, is_at, scaled, scaled_terms, plus, sum_over}
+use Rattle.rank_form.specs.Weights.{weigh, rate, is_at, scaled, scaled_terms, plus}
 use Rattle.abs_step.specs.OutcomeLists.{OutcomeOf}
 use Rattle.rank_form.specs.Bounds.{post_at, by_post, added, within, moved, span, remains, after}
 use Rattle.rank_form.specs.Levels.{constant_form, shift}

@@ -1,11 +1,10 @@
 -- What the code sums up is what the bounds say.
-use Rattle.std.specs.Prelude.{◌≡◌, ℕ, zero, suc, ◌+◌, ◌<◌, ◌≤◌, nat_lt, nat_eq, nat_le, ℤ, pos, ◌+ℤ◌, ◌-ℤ◌, ◌*ℤ◌, neg_ℤ, cond, Bool, true, false, ◌&&◌, List, [], ◌∷◌, ◌++◌, length, replicate, Option}
-use Rattle.std.proofs.Common.{refl, arith, sym, ◌∙◌, ap, subst, ◌⊎◌, inl, inr}
+use Rattle.std.specs.Prelude.{◌≡◌, ℕ, zero, suc, ◌+◌, ◌<◌, ◌≤◌, nat_lt, nat_eq, nat_le, ℤ, pos, ◌+ℤ◌, ◌-ℤ◌, ◌*ℤ◌, neg_ℤ, cond, Bool, true, false, ◌&&◌, List, [], ◌∷◌, length, replicate, Option}
+use Rattle.std.proofs.Common.{refl, arith, sym, ◌∙◌, ap, subst}
 use Rattle.std.proofs.Math.Path.{ap₂}
 use Rattle.std.proofs.lemmas.Int.{ints}
 use Rattle.std.proofs.lemmas.Bool.{and_parts}
 use Rattle.num_domain.specs.Domain.{Domain}
-use Rattle.num_domain.specs.Ends.{Ends}
 use Rattle.viper_word.specs.declared.reg.Reg.TheVariants.{A, X, Y}
 use Rattle.flag_relation.specs.declared.link.Link.{Link}
 use Rattle.flag_relation.specs.declared.var.Var.{Var}
@@ -17,14 +16,12 @@ use Rattle.abs_step.specs.declared.outcome.Post.{Post}
 use Rattle.abs_step.specs.declared.outcome.Post.TheVariants.{Same, Plus, Within}
 use Rattle.abs_step.specs.OutcomeLists.{OutcomeOf}
 use Rattle.rank_form.specs.declared.rates.TheConstants.{FACT_VARIABLES}
-use Rattle.rank_form.specs.Weights.{weigh, is_at, rate, negated, less, scaled_terms, sum_below, sum_over}
-use Rattle.rank_form.specs.Bounds.{place, linked, canonical, most, post_at, by_post, added, within, moved, span, upper, lower, remains, after, rise}
-use Rattle.rank_form.specs.Rates.{no_links, rate_at, spread, is_in, most_in, gain, gains, net_most, net_upper}
+use Rattle.rank_form.specs.Weights.{weigh, is_at, rate, negated, less, sum_below, sum_over}
+use Rattle.rank_form.specs.Bounds.{place, linked, most, post_at, by_post, added, within, moved, span, upper, lower, remains, after, rise}
+use Rattle.rank_form.specs.Rates.{rate_at, spread, is_in, most_in, gain, gains, net_most, net_upper}
 use Rattle.rank_form.proofs.Products.{times_minus, times_zero, zero_times}
-use Rattle.rank_form.proofs.Weighing.{weigh_append, weigh_negated, weigh_renamed, weigh_moved, weigh_plus}
+use Rattle.rank_form.proofs.Weighing.{weigh_append, weigh_negated, weigh_renamed}
 use Rattle.rank_form.proofs.Summing.{sum_zero, sum_plus, sum_same, share}
-use Rattle.rank_form.proofs.Bounding.{most_zero}
-use Rattle.rank_form.proofs.UpperLaws.{upper_is}
 use Rattle.rank_form.proofs.AfterLaws.{after_constant, after_weighs, within_zero}
 use Rattle.rank_form.proofs.Rating.{spread_zeros, zero_rate}
 
@@ -258,8 +255,8 @@ module _ {T : Type 0} (d : Domain T) where
       let us = linked links f.terms in
       let ws = linked links (less a f).terms in
       let turn = λ (v : Var).
-          linked_rate links (less a f).terms v ∙ weigh_append (named o.pre v) a.terms (negated f).terms
-          ∙ ap₂ ◌+ℤ◌ (sym (linked_rate links a.terms v)) (weigh_negated (named o.pre v) f.terms ∙ ap neg_ℤ (sym (linked_rate links f.terms v))) in
+      linked_rate links (less a f).terms v ∙ weigh_append (named o.pre v) a.terms (negated f).terms
+      ∙ ap₂ ◌+ℤ◌ (sym (linked_rate links a.terms v)) (weigh_negated (named o.pre v) f.terms ∙ ap neg_ℤ (sym (linked_rate links f.terms v))) in
       let net = net_is o.pre (spread ts zeros) (spread us zeros) ws few
       (λ v h. both_less (rate_at (spread ts zeros) v) (rate_at (spread us zeros) v) (rate ts v) (rate us v) (spread_zeros ts FACT_VARIABLES v h) (spread_zeros us FACT_VARIABLES v h) ∙ sym (turn v)) in
       let total : net_upper d o.pre (spread ts zeros) (spread us zeros) ≡ (upper d (less a f) o.pre +ℤ (f.constant +ℤ weigh more f.terms)) -ℤ (a.constant +ℤ weigh more a.terms) = omega (

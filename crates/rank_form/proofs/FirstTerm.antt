@@ -1,5 +1,5 @@
 -- Terms, by the first of them.
-use Rattle.std.specs.Prelude.{◌≡◌, ℕ, ◌≤◌, ℤ, pos, ◌+ℤ◌, ◌*ℤ◌, List, [], ◌∷◌, length, drop, take, ◌-◌, suc, slice_index_or}
+use Rattle.std.specs.Prelude.{◌≡◌, ◌≤◌, ℤ, ◌+ℤ◌, ◌*ℤ◌, List, [], ◌∷◌, length, drop, take, ◌-◌, suc, slice_index_or}
 use Rattle.std.specs.Prelude.{Option}
 use Rattle.std.proofs.Common.{refl, take_all, arith, sym, ◌∙◌, ap}
 use Rattle.num_domain.specs.Domain.{Domain}

@@ -15,3 +15,5 @@ pub mod Rating
 pub mod CodeLaws
 pub mod Pushing
 pub mod Ordering
+pub mod Fitting
+pub mod AfterForms

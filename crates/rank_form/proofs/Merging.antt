@@ -1,5 +1,5 @@
 -- A form with its terms in order weighs the same.
-use Rattle.std.specs.Prelude.{◌≡◌, ℕ, zero, suc, ◌+◌, ◌≤◌, ◌<◌, nat_eq, nat_lt, ℤ, pos, ◌+ℤ◌, ◌*ℤ◌, cond, Bool, true, false, List, [], ◌∷◌, ◌++◌, length}
+use Rattle.std.specs.Prelude.{◌≡◌, ℕ, zero, suc, ◌+◌, ◌≤◌, ◌<◌, nat_eq, ℤ, pos, ◌+ℤ◌, ◌*ℤ◌, cond, Bool, true, false, List, [], ◌∷◌}
 use Rattle.std.specs.Ordering.{int_eq}
 use Rattle.std.proofs.Common.{refl, arith, sym, ◌∙◌, ap, subst, ◌⊎◌, inl, inr}
 use Rattle.std.proofs.Math.Path.{ap₂}
@@ -12,7 +12,7 @@ use Rattle.flag_relation.specs.declared.var.Var.TheVariants.{Reg, Cell}
 use Rattle.flag_relation.specs.Forms.{FormOf, var_number}
 use Rattle.rank_form.specs.Weights.{weigh, is_at, rate, var_at, term_of, terms_from, past, merged}
 use Rattle.rank_form.proofs.Alikes.{Alike}
-use Rattle.rank_form.proofs.Products.{times_times, times_zero, zero_times}
+use Rattle.rank_form.proofs.Products.{times_times, zero_times}
 use Rattle.rank_form.proofs.Summing.{at_one, at_none, test_same, test_other, test_above}
 use Rattle.rank_form.proofs.Weighing.{weigh_append}
 

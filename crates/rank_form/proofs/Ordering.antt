@@ -1,19 +1,18 @@
 -- The terms of a form in order, from coefficients in a list.
-use Rattle.std.specs.Prelude.{◌≡◌, ℕ, zero, suc, ◌+◌, ◌-◌, ◌*◌, ◌^◌, ◌<◌, ◌≤◌, nat_eq, nat_le, ℤ, pos, neg_ℤ, ◌+ℤ◌, ◌*ℤ◌, unsigned_abs, cond, Bool, true, false, ◌&&◌, List, [], ◌∷◌, ◌++◌, length, replicate, Option, Some}
+use Rattle.std.specs.Prelude.{◌≡◌, ℕ, zero, suc, ◌+◌, ◌<◌, ◌≤◌, nat_eq, nat_le, ℤ, pos, neg_ℤ, ◌+ℤ◌, ◌*ℤ◌, cond, Bool, true, false, ◌&&◌, List, [], ◌∷◌, ◌++◌, length, replicate, Option, Some, None, if◌then◌else◌}
 use Rattle.std.specs.Option.{IsSome}
-use Rattle.std.proofs.Common.{refl, arith, sym, ◌∙◌, ap, subst}
+use Rattle.std.proofs.lemmas.Option.{none-some}
+use Rattle.std.proofs.Common.{rules, refl, arith, sym, ◌∙◌, ap, subst}
 use Rattle.std.proofs.Math.Path.{ap₂}
 use Rattle.std.proofs.lemmas.Int.{ints}
 use Rattle.viper_word.specs.declared.reg.Reg.TheVariants.{A, X, Y}
-use Rattle.flag_relation.specs.declared.link.Link.{Link}
 use Rattle.flag_relation.specs.declared.var.Var.{Var}
 use Rattle.flag_relation.specs.declared.var.Var.TheVariants.{Reg, Cell}
-use Rattle.flag_relation.specs.Values.{Regs}
 use Rattle.flag_relation.specs.Forms.{FormOf, var_number, are_terms, form_of}
 use Rattle.rank_form.specs.declared.rates.TheConstants.{VARIABLES}
-use Rattle.rank_form.specs.Weights.{weigh, is_at, rate, var_at, term_of, terms_from, past, merged}
+use Rattle.rank_form.specs.Weights.{weigh, is_at, rate, var_at, term_of, terms_from, past}
 use Rattle.rank_form.specs.Bounds.{place, linked}
-use Rattle.rank_form.specs.Levels.{direction, stacked, level, in_limits}
+use Rattle.rank_form.specs.Levels.{direction, level, in_limits}
 use Rattle.rank_form.specs.Rates.{no_links, rate_at, put, spread}
 use Rattle.rank_form.proofs.Merging.{number_var, past_head, past_tail}
 use Rattle.rank_form.proofs.Pushing.{eq_zero}
@@ -92,13 +91,20 @@ pub level_code : (t : ℤ) (v : Var) (down : Bool) (low : ℤ) (f : FormOf) (k c
     → var_number v < VARIABLES → past f.terms ≤ VARIABLES → form_of k (terms_from (rate_at rs) 0 VARIABLES) ≡ in_limits (level t (direction v down) low f)
 unfolding level
 level_code t v down low f k c rs e p q h r =
-    ap₂ form_of (e ∙ omega (arith, ints, times_zero t))
-    (ap (λ us. terms_from (rate_at us) 0 VARIABLES) q ∙ level_terms v c f.terms h r ∙ ap (λ z. terms_from (rate ((v, z) ∷ f.terms)) 0 (past ((v, z) ∷ f.terms))) p)
+    let s = cond down (pos 1) (neg_ℤ (pos 1)) in
+    let number : k ≡ ((t *ℤ pos 0) +ℤ f.constant) +ℤ neg_ℤ (t *ℤ low) = omega (arith, ints, e, times_zero t) in
+    let terms : terms_from (rate_at rs) 0 VARIABLES ≡ terms_from (rate ((v, t *ℤ s) ∷ f.terms)) 0 (past ((v, t *ℤ s) ∷ f.terms)) =
+    ap (λ us. terms_from (rate_at us) 0 VARIABLES) q ∙ level_terms v c f.terms h r ∙ ap (λ z. terms_from (rate ((v, z) ∷ f.terms)) 0 (past ((v, z) ∷ f.terms))) p in
+    ap₂ form_of number terms
+
+zero_le : (n : ℕ) → nat_le 0 n ≡ true
+zero_le n = grind arith
 
 pub direction_form : (v : Var) (down : Bool) → form_of (pos 0) ((v, cond down (pos 1) (neg_ℤ (pos 1))) ∷ []) ≡ Some (direction v down)
 unfolding are_terms
-direction_form v true = refl
-direction_form v false = refl
+direction_form v true = ap (λ (b : Bool). (if (true && true) && ((b && true) && true) then Some (direction v true) else None)) (zero_le (var_number v))
+direction_form v false = ap (λ (b : Bool). (if (true && true) && ((b && true) && true) then Some (direction v false) else None)) (zero_le (var_number v))
 
 pub some_is : {T : Type 0} (o : Option T) (x : T) → o ≡ Some x → IsSome o
-some_is o x e = subst IsSome (sym e) tt
+some_is None x e = absurd (none-some x e)
+some_is (Some y) x e = search rules

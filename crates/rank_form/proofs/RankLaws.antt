@@ -10,8 +10,8 @@ use Rattle.flag_relation.specs.Forms.{FormOf}
 use Rattle.rank_form.specs.Weights.{weigh, scaled, scaled_terms, plus, negated, less}
 use Rattle.abs_step.specs.OutcomeLists.{OutcomeOf}
 use Rattle.rank_form.specs.Bounds.{post_at, by_post, upper, lower, after, rise}
-use Rattle.rank_form.specs.Levels.{constant_form, shift, stacked, level}
-use Rattle.rank_form.specs.Laws.{IsSideOf, FormLaws}
+use Rattle.rank_form.specs.Levels.{shift, stacked, level}
+use Rattle.rank_form.specs.Laws.{FormLaws}
 use Rattle.rank_form.proofs.Alikes.{Alike}
 use Rattle.rank_form.proofs.Merging.{merged_alike}
 use Rattle.rank_form.proofs.Spellings.{negated_alike, upper_alike, rise_alike}

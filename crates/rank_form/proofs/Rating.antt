@@ -1,5 +1,5 @@
 -- What stands in a list of coefficients once terms were added.
-use Rattle.std.specs.Prelude.{◌≡◌, ℕ, zero, suc, ◌+◌, ◌*◌, ◌-◌, ◌<◌, ◌≤◌, ℤ, pos, ◌+ℤ◌, ◌-ℤ◌, ◌*ℤ◌, unsigned_abs, cond, nat_eq, Bool, true, false, List, [], ◌∷◌, ◌++◌, length, replicate, Option}
+use Rattle.std.specs.Prelude.{◌≡◌, ℕ, zero, suc, ◌+◌, ◌*◌, ◌<◌, ◌≤◌, ℤ, pos, ◌+ℤ◌, ◌*ℤ◌, unsigned_abs, cond, nat_eq, Bool, true, false, List, [], ◌∷◌, length, replicate, Option}
 use Rattle.std.proofs.Common.{refl, arith, sym, ◌∙◌, ap, subst, set, get_or, ◌⊎◌, inl, inr}
 use Rattle.std.proofs.lemmas.Int.{ints}
 use Rattle.std.proofs.lemmas.List.{get_or-set_other, get_or_past, length-set, length-replicate}
@@ -13,7 +13,6 @@ use Rattle.abs_step.specs.declared.outcome.Post.TheVariants.{Same, Plus, Within}
 use Rattle.rank_form.specs.Weights.{weigh, is_at, rate}
 use Rattle.rank_form.specs.Bounds.{linked, post_at, moved_by, moved}
 use Rattle.rank_form.specs.Rates.{AreSmall, IsBelow, rate_at, put, spread}
-use Rattle.rank_form.proofs.Summing.{at_one, at_none}
 
 same_or_not : (i j : ℕ) → (i ≡ j) ⊎ ((i ≡ j → ⊥) × (nat_eq i j ≡ false))
 same_or_not i j = grind arith
@@ -115,13 +114,13 @@ moved_few posts (t ∷ ts) = omega (arith, moved_few_by (post_at posts t.0) t.0 
 pub start_below : (n b : ℕ) (zs : List ℤ) → zs ≡ replicate n (pos 0) → IsBelow b zs
 start_below n b zs e = subst (λ (rs : List ℤ). IsBelow b rs) (sym e) (zeros_below n b)
 
-below_more : (a b : ℕ) (rs : List ℤ) → a ≤ b → IsBelow a rs → IsBelow b rs
+pub below_more : (a b : ℕ) (rs : List ℤ) → a ≤ b → IsBelow a rs → IsBelow b rs
 below_more a b rs h k i = omega (arith, h, k i)
 
 eight_times : (n b : ℕ) → n ≤ 8 → 0 + n * b ≤ 8 * b
 eight_times n b h = grind arith
 
-spread_fits : (n b : ℕ) (ts : List (Var × ℤ)) → AreSmall b ts → length ts ≤ 8 → IsBelow (8 * b) (spread ts (replicate n (pos 0)))
+pub spread_fits : (n b : ℕ) (ts : List (Var × ℤ)) → AreSmall b ts → length ts ≤ 8 → IsBelow (8 * b) (spread ts (replicate n (pos 0)))
 spread_fits n b ts h few = below_more (0 + length ts * b) (8 * b) _ (eight_times (length ts) b few) (spread_below b 0 ts (replicate n (pos 0)) h (zeros_below n 0))
 
 pub terms_fit : (n b : ℕ) (links : Regs (Option Link)) (ts : List (Var × ℤ)) (rs zs : List ℤ) → rs ≡ spread (linked links ts) zs → zs ≡ replicate n (pos 0) → AreSmall b ts → length ts ≤ 8 → IsBelow (8 * b) rs

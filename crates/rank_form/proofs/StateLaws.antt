@@ -18,6 +18,7 @@ use Rattle.abs_step.specs.declared.outcome.Post.{Post}
 use Rattle.abs_step.specs.declared.outcome.Post.TheVariants.{Same, Plus, Within}
 use Rattle.viper_word.specs.declared.reg.Reg.TheVariants.{A, X, Y}
 use Rattle.rank_form.specs.Weights.{at, rate, value, negated, less, merged}
+use Rattle.viper_word.proofs.Integers.{le_true}
 use Rattle.rank_form.proofs.Merging.{merged_alike}
 use Rattle.rank_form.proofs.Spellings.{negated_alike, upper_alike, rise_alike}
 use Rattle.abs_step.specs.OutcomeLists.{OutcomeOf}
@@ -121,6 +122,7 @@ module _ {T : Type 0} (d : Domain T) (laws : DomainLaws d) where
     over = upper_bounds d laws;
     under = lower_bounds;
     rises = rise_bounds;
+    falls = λ f g o e e' price h k. omega (arith, ints, rise_bounds f g o e e' h, le_true (rise d f g o) (neg_ℤ (pos price)) k);
     merged_upper = λ f x. upper_alike d (merged f) f x (merged_alike f);
     merged_lower = λ f x. ap neg_ℤ (upper_alike d (negated (merged f)) (negated f) x (negated_alike (merged f) f (merged_alike f)));
     merged_rise = λ f g o. rise_alike d (merged f) f (merged g) g o (merged_alike f) (merged_alike g);

@@ -1,5 +1,5 @@
 -- What holds of bounds of forms.
-use Rattle.std.specs.Prelude.{◌≡◌, ℤ, pos, negsuc, ◌+ℤ◌, ◌-ℤ◌, ◌*ℤ◌, ◌≤ℤ◌, Bool, false}
+use Rattle.std.specs.Prelude.{◌≡◌, ℕ, ℤ, pos, negsuc, ◌+ℤ◌, ◌-ℤ◌, ◌*ℤ◌, neg_ℤ, ◌≤ℤ◌, int_le, Bool, true, false}
 use Rattle.num_domain.specs.Domain.{Domain}
 use Rattle.flag_relation.specs.Values.{Values}
 use Rattle.flag_relation.specs.Facts.{FactOf, values, Meets}
@@ -28,6 +28,9 @@ module _ {T : Type 0} (d : Domain T) where
         → lower d f x ≤ℤ value f e
     pub rises : (f g : FormOf) (o : OutcomeOf T) (e e' : Values ℤ) → IsStepOf o e e'
         → (value g e' -ℤ value f e) ≤ℤ rise d f g o
+    -- where the bound is at most the negative of a price, the value falls by the price
+    pub falls : (f g : FormOf) (o : OutcomeOf T) (e e' : Values ℤ) (price : ℕ) → IsStepOf o e e'
+        → int_le (rise d f g o) (neg_ℤ (pos price)) ≡ true → (value g e' +ℤ pos price) ≤ℤ value f e
     -- the order of terms, and how they are split, change no bound
     pub merged_upper : (f : FormOf) (x : FactOf T) → upper d (merged f) x ≡ upper d f x
     pub merged_lower : (f : FormOf) (x : FactOf T) → lower d (merged f) x ≡ lower d f x

@@ -1,5 +1,5 @@
 -- Words for code: coefficients in a list, by the numbers of their variables.
-use Rattle.std.specs.Prelude.{ℕ, ◌+◌, ◌≤◌, ℤ, pos, ◌+ℤ◌, ◌-ℤ◌, ◌*ℤ◌, unsigned_abs, List, [], ◌∷◌, Option, None, length, cond, nat_lt, Bool, true}
+use Rattle.std.specs.Prelude.{ℕ, ◌≤◌, ℤ, pos, ◌+ℤ◌, ◌-ℤ◌, ◌*ℤ◌, unsigned_abs, List, [], ◌∷◌, Option, None, length, cond, nat_lt, Bool, true}
 use Rattle.std.proofs.Common.{set, get_or}
 use Rattle.num_domain.specs.Domain.{Domain}
 use Rattle.flag_relation.specs.declared.link.Link.{Link}

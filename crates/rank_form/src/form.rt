@@ -2,10 +2,10 @@
 ghost use Rattle.std.specs.Prelude.{◌≡◌, ◌≤◌, ◌^◌, ◌*◌, ◌+ℤ◌, ◌-ℤ◌, neg_ℤ, pos, int_le, length, unsigned_abs};
 ghost use Rattle.rank_form.specs.Bounds.{upper, lower, rise};
 
-use crate::step::add_after;
 use crate::bound::net_upper;
 use crate::place::links_of;
 use crate::rates::{FACT_VARIABLES, add_terms, zeros};
+use crate::step::add_after;
 use crate::terms::{constant, terms};
 use abs_step::Outcome;
 use flag_relation::{Fact, Form};

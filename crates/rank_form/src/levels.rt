@@ -23,13 +23,22 @@ fn directed(weight: i128, down: bool) -> i128
     if down { weight } else { -weight }
 }
 
+/// A weight times a low end.
+fn share(weight: i128, low: i64) -> i128
+    requires { unsigned_abs weight ≤ 2 ^ 62 }
+    ensures value { result ≡ weight *ℤ low }
+    ensures size { unsigned_abs result ≤ 2 ^ 125 }
+{
+    weight * low as i128
+}
+
 /// A weight's share of a low end, taken from a constant.
 fn lowered(constant: i128, weight: i128, low: i64) -> i128
     requires constant { unsigned_abs constant ≤ 2 ^ 77 }
     requires weight { unsigned_abs weight ≤ 2 ^ 62 }
     ensures { result ≡ constant +ℤ neg_ℤ (weight *ℤ low) }
 {
-    constant - weight * low as i128
+    constant - share(weight, low)
 }
 
 /// The variable as a form, or, where it is to go up, its negative.

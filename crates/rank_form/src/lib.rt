@@ -5,16 +5,16 @@
 //! docs/METHOD.md, "Forms", has the rules in words, with an example.
 #![tactic(auto)]
 
-mod levels;
 mod bound;
 mod form;
 mod laws;
-mod step;
+mod levels;
 mod place;
 mod rates;
+mod step;
 mod terms;
 
-pub use step::{after, upper_after};
 pub use form::{falls_by, lower, rise, upper};
 pub use laws::{bound_laws, form_laws};
 pub use levels::{direction, level, shift};
+pub use step::{after, upper_after};

@@ -1,4 +1,4 @@
-use Rattle.std.proofs.Common.{rules, arith, ap, sym, ◌∙◌, ◌≡◌, ℕ, ◌*◌, ◌^◌, ◌≤◌, unsigned_abs}
+use Rattle.std.proofs.Common.{rules, arith, sym, ◌≡◌, ℕ, ◌*◌, ◌^◌, ◌≤◌, unsigned_abs}
 use Rattle.std.proofs.lemmas.Int.{ints}
 use mir.Val.{SFits, to_z}
 use mir.Syntax.{w128}

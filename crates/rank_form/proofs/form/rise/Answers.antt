@@ -1,7 +1,7 @@
-use Rattle.std.proofs.Common.{rules, arith, sym, ap, subst, ◌∙◌, ◌≡◌, ◌≤◌, ◌^◌, ℤ, pos, ◌+ℤ◌, ◌-ℤ◌, List, length, replicate, unsigned_abs, Option}
+use Rattle.std.proofs.Common.{rules, sym, ap, subst, ◌∙◌, ◌≡◌, ◌^◌, ℤ, pos, ◌+ℤ◌, ◌-ℤ◌, List, length, replicate, Option}
 use Rattle.std.proofs.Math.Path.{ap₂}
-use Rattle.std.proofs.lemmas.Int.{ints, to_z-of_z}
-use mir.Val.{SFits, to_z, of_z}
+use Rattle.std.proofs.lemmas.Int.{to_z-of_z}
+use mir.Val.{SFits}
 use mir.Syntax.{w128}
 use Rattle.flag_relation.specs.declared.link.Link.{Link}
 use Rattle.flag_relation.specs.declared.var.Var.{Var}
@@ -9,11 +9,11 @@ use Rattle.flag_relation.specs.Values.{Regs}
 use Rattle.abs_step.specs.OutcomeLists.{OutcomeOf}
 use Rattle.rank_form.specs.declared.rates.TheConstants.{FACT_VARIABLES}
 use Rattle.rank_form.specs.Weights.{weigh}
-use Rattle.rank_form.specs.Bounds.{place, linked, moved, upper, lower, after, rise}
+use Rattle.rank_form.specs.Bounds.{place, linked, moved, after, rise}
 use Rattle.rank_form.specs.Rates.{regs_of, spread, gains, net_upper}
 use Rattle.rank_form.proofs.Limits.{form_ascends}
 use Rattle.rank_form.proofs.Rating.{start_below, terms_fit, moved_fit}
-use Rattle.rank_form.proofs.CodeLaws.{upper_code, lower_code, gains_code, after_code, rise_code, rise_adds}
+use Rattle.rank_form.proofs.CodeLaws.{gains_code, rise_code, rise_adds}
 use Rattle.rank_form.proofs.form.rise.Goals as goal
 
 pub add_after-gained-requires-clause-room : goal.add_after-gained-requires-clause-room
@@ -57,7 +57,7 @@ returns g c =
     let z : SFits w128 c.difference.result = search rules in
     let e : rise d b f o ≡ rise d b f c.args.out.now = ap (rise d b f) same in
     let r : net_upper d o.pre (spread (linked o.pre.links (moved o.posts f.terms)) zs) (spread (linked o.pre.links b.terms) zs)
-        ≡ (rise d b f o +ℤ (b.constant +ℤ weigh (λ v. (place o.pre.links v).more) b.terms)) -ℤ ((after d f o).constant +ℤ weigh (λ v. (place o.pre.links v).more) (after d f o).terms) = rise_code d b f o c.net_upper-most.ensures.few in
+    ≡ (rise d b f o +ℤ (b.constant +ℤ weigh (λ v. (place o.pre.links v).more) b.terms)) -ℤ ((after d f o).constant +ℤ weigh (λ v. (place o.pre.links v).more) (after d f o).terms) = rise_code d b f o c.net_upper-most.ensures.few in
     let sum : c.total.result ≡ (c.constant.result +ℤ c.add_after-gained.result) +ℤ c.net_upper-most.result =
     c.total.ensures.value ∙ ap₂ ◌+ℤ◌ (ap₂ ◌+ℤ◌ (to_z-of_z w128 c.constant.result k) (to_z-of_z w128 c.add_after-gained.result m)) (to_z-of_z w128 c.net_upper-most.result n) in
     let last : c.difference.result ≡ c.total.result -ℤ (b.constant +ℤ weigh (λ v. (place o.pre.links v).more) b.terms) =

@@ -1,4 +1,4 @@
-use Rattle.std.proofs.Common.{rules, arith, sym, ap, ◌∙◌, ◌≡◌, pos, ◌+ℤ◌, [], List, ℤ, slice_index_or, drop, take, length, ◌-◌}
+use Rattle.std.proofs.Common.{rules, arith, sym, ap, ◌∙◌, ◌≡◌, pos, [], List, ℤ, slice_index_or, drop, take, length, ◌-◌}
 use Rattle.std.proofs.lemmas.Int.{ints}
 use mir.Val.{SFits}
 use mir.Syntax.{w128}

@@ -1,9 +1,8 @@
-use Rattle.std.proofs.Common.{rules, arith, ap, ◌∙◌, ◌≡◌, pos, ◌+ℤ◌, ◌*ℤ◌}
+use Rattle.std.proofs.Common.{rules, arith, ap, ◌∙◌, ◌≡◌, ◌+ℤ◌, ◌*ℤ◌}
 use Rattle.std.proofs.Math.Path.{ap₂}
 use Rattle.std.proofs.lemmas.Int.{ints, to_z-of_z}
 use mir.Val.{SFits}
 use mir.Syntax.{w64, w128}
-use Rattle.abs_step.specs.declared.outcome.Post.TheVariants.{Plus}
 use Rattle.rank_form.specs.Bounds.{place}
 use Rattle.rank_form.specs.Rates.{regs_of, gain}
 use Rattle.rank_form.proofs.step.add_moved.Goals as goal

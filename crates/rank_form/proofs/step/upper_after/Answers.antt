@@ -1,7 +1,7 @@
-use Rattle.std.proofs.Common.{rules, arith, sym, ap, subst, ◌∙◌, ◌≡◌, ◌≤◌, ◌^◌, ℤ, pos, ◌+ℤ◌, ◌-ℤ◌, List, length, replicate, unsigned_abs, Option}
+use Rattle.std.proofs.Common.{rules, arith, sym, ap, subst, ◌∙◌, ◌≡◌, ◌^◌, ℤ, pos, ◌+ℤ◌, List, length, replicate, Option}
 use Rattle.std.proofs.Math.Path.{ap₂}
-use Rattle.std.proofs.lemmas.Int.{ints, to_z-of_z}
-use mir.Val.{SFits, to_z, of_z}
+use Rattle.std.proofs.lemmas.Int.{ints}
+use mir.Val.{SFits}
 use mir.Syntax.{w128}
 use Rattle.flag_relation.specs.declared.link.Link.{Link}
 use Rattle.flag_relation.specs.declared.var.Var.{Var}
@@ -9,11 +9,11 @@ use Rattle.flag_relation.specs.Values.{Regs}
 use Rattle.abs_step.specs.OutcomeLists.{OutcomeOf}
 use Rattle.rank_form.specs.declared.rates.TheConstants.{FACT_VARIABLES}
 use Rattle.rank_form.specs.Weights.{weigh}
-use Rattle.rank_form.specs.Bounds.{place, linked, moved, upper, lower, after, rise}
+use Rattle.rank_form.specs.Bounds.{place, linked, moved, upper, after}
 use Rattle.rank_form.specs.Rates.{regs_of, spread, gains, net_upper}
 use Rattle.rank_form.proofs.Limits.{form_ascends}
-use Rattle.rank_form.proofs.Rating.{start_below, terms_fit, moved_fit}
-use Rattle.rank_form.proofs.CodeLaws.{upper_code, lower_code, gains_code, after_code, rise_code}
+use Rattle.rank_form.proofs.Rating.{start_below, moved_fit}
+use Rattle.rank_form.proofs.CodeLaws.{gains_code, after_code}
 use Rattle.rank_form.proofs.step.upper_after.Goals as goal
 
 pub add_after-gained-requires-clause-room : goal.add_after-gained-requires-clause-room
