@@ -34,8 +34,8 @@ pub fn lower<D: NumDomain>(form: &Form, fact: &Fact<D>) -> i128
 }
 
 /// The most by which the form `to` after the step is above the form `from` before it: between two
-/// states that meet what the outcome knows on its sides the change is at most that. Takes any forms.
-/// The outcome has as many cells after the step as before it. docs/METHOD.md, "Forms".
+/// states that meet what the outcome knows on its sides the change is at most that. Takes any
+/// forms. The outcome has as many cells after the step as before it. docs/METHOD.md, "Forms".
 pub fn rise<D: NumDomain>(from: &Form, to: &Form, out: &Outcome<D>) -> i128
     requires { length out.now.after.cells ≡ length out.now.pre.cells }
     ensures { result ≡ rise D.domain from.now to.now out.now }
@@ -49,8 +49,8 @@ pub fn rise<D: NumDomain>(from: &Form, to: &Form, out: &Outcome<D>) -> i128
     difference(total(constant(to), gained, most), constant(from), more)
 }
 
-/// Does the form surely fall by the price over an outcome: is `rise` at most the negative of it? The
-/// condition is that of `rise`.
+/// Does the form surely fall by the price over an outcome: is `rise` at most the negative of it?
+/// The condition is that of `rise`.
 pub fn falls_by<D: NumDomain>(from: &Form, to: &Form, out: &Outcome<D>, price: u32) -> bool
     requires { length out.now.after.cells ≡ length out.now.pre.cells }
     ensures { result ≡ int_le (rise D.domain from.now to.now out.now) (neg_ℤ (pos price)) }

@@ -9,8 +9,8 @@ pub fn bound_laws<D: NumDomain>()
     ensures { BoundLaws D.domain }
 {}
 
-/// What a ranking by forms rests on: the bounds of numbers, of a form plus a number, and of one form
-/// on another.
+/// What a ranking by forms rests on: the bounds of numbers, of a form plus a number, and of one
+/// form on another.
 pub fn form_laws<D: NumDomain>()
     ensures { FormLaws D.domain }
 {}

@@ -48,8 +48,9 @@ pub fn direction(var: Var, down: bool) -> Form
     Form::new(0, &[(var, sign(down))]).unwrap()
 }
 
-/// The weight times (the variable's direction less its low end) plus another form, with its terms in
-/// order. None exactly where this passes a limit of forms. docs/METHOD.md, "Forms".
+/// The weight times (the directed variable less its low end) plus another form, with its terms in
+/// order. The variable is directed as `direction` has it, and `low` is of that form. None exactly
+/// where this passes a limit of forms. docs/METHOD.md, "Forms".
 pub fn level(weight: i128, var: Var, down: bool, low: i64, inner: &Form) -> Option<Form>
     requires { unsigned_abs weight ≤ 2 ^ 62 }
     ensures { result ≡ in_limits (level weight (direction var down) low inner.now) }

@@ -1,8 +1,9 @@
-//! Forms: numbers that are linear in registers and cells, with their bounds over facts and outcomes.
+//! Forms: numbers that are linear in registers and cells, with their bounds over facts and
+//! outcomes.
 //!
-//! The ranks of a certificate are forms. What they are at the most and at the least over a fact, and
-//! by how much they may rise over an outcome, decides whether they rank. Nothing here takes memory.
-//! docs/METHOD.md, "Forms", has the rules in words, with an example.
+//! The ranks of a certificate are forms. What they are at the most and at the least over a fact,
+//! and by how much they may rise over an outcome, decides whether they rank. Nothing here takes
+//! memory. docs/METHOD.md, "Forms", has the rules in words, with an example.
 #![tactic(auto)]
 
 mod bound;

@@ -49,7 +49,7 @@ pub(crate) fn put(rates: &mut [i128], var: Var, coefficient: i128)
 }
 
 /// Adds each term at the variable that its own is by the links. The answer is what the links add.
-#[tactic(auto, unfolding(crate::specs::Weights::weigh, crate::specs::Weights::past, crate::specs::Rates::spread))]
+#[tactic(auto, unfolding(crate::specs::Weights::weigh, crate::specs::Weights::past, crate::specs::Rates::spread,))]
 pub(crate) fn add_terms(links: &Links, terms: &[(Var, i128)], rates: &mut [i128]) -> i128
     requires small { AreSmall (2 ^ 43) terms.now }
     requires few { length terms.now ≤ 8 }

@@ -49,8 +49,10 @@ fn add_moved<D: NumDomain>(
     ensures size { unsigned_abs result ≤ 2 ^ 111 }
     ensures grown { (i : ℕ) → unsigned_abs (get_or rates.new i (pos 0))
         ≤ unsigned_abs (get_or rates.old i (pos 0)) + 2 ^ 43 }
-    ensures rates { rates.new ≡ spread (linked (regs_of links.now) (moved_by post var coefficient [])) rates.old }
-    ensures named { past (linked (regs_of links.now) (moved_by post var coefficient [])) ≤ VARIABLES }
+    ensures rates { rates.new
+        ≡ spread (linked (regs_of links.now) (moved_by post var coefficient [])) rates.old }
+    ensures named { past (linked (regs_of links.now) (moved_by post var coefficient []))
+        ≤ VARIABLES }
     ensures count { length rates.new ≡ length rates.old }
 {
     match post {
@@ -72,7 +74,7 @@ fn add_moved<D: NumDomain>(
 
 /// Adds what each term becomes by its post and then by a link. The answer is what that adds to the
 /// constant.
-#[tactic(auto, unfolding(crate::specs::Bounds::moved, crate::specs::Rates::gains, crate::specs::Rates::spread, crate::specs::Weights::past))]
+#[tactic(auto, unfolding(crate::specs::Bounds::moved, crate::specs::Rates::gains, crate::specs::Rates::spread, crate::specs::Weights::past,))]
 pub(crate) fn add_after<D: NumDomain>(
     links: &Links,
     posts: &Posts,
@@ -85,7 +87,8 @@ pub(crate) fn add_after<D: NumDomain>(
     requires room { IsBelow ((8 - length terms.now) * 2 ^ 43) rates.old }
     ensures gains { result ≡ gains D.domain (regs_of links.now) posts.now fact.now terms.now }
     ensures size { unsigned_abs result ≤ length terms.now * 2 ^ 111 }
-    ensures rates { rates.new ≡ spread (linked (regs_of links.now) (moved posts.now terms.now)) rates.old }
+    ensures rates { rates.new
+        ≡ spread (linked (regs_of links.now) (moved posts.now terms.now)) rates.old }
     ensures named { past (linked (regs_of links.now) (moved posts.now terms.now)) ≤ VARIABLES }
     ensures count { length rates.new ≡ length rates.old }
 {

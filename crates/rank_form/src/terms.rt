@@ -39,12 +39,13 @@ fn var_at(number: usize) -> Var
     }
 }
 
-/// Puts the term of a number's variable behind the first ones, unless its coefficient is 0. The answer
-/// is how many there are then.
+/// Puts the term of a number's variable behind the first ones, unless its coefficient is 0. The
+/// answer is how many there are then.
 fn push(items: &mut [(Var, i128)], count: usize, number: usize, coefficient: i128) -> usize
     requires room { count < length items.old }
     requires named { number < VARIABLES }
-    ensures made { take result items.new ≡ take count items.old ++ term_of (var_at number) coefficient }
+    ensures made { take result items.new
+        ≡ take count items.old ++ term_of (var_at number) coefficient }
     ensures more { result ≤ count + 1 }
     ensures long { length items.new ≡ length items.old }
 {

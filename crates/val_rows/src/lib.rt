@@ -7,4 +7,6 @@
 #[cfg(test)]
 mod facts;
 #[cfg(test)]
+mod solutions;
+#[cfg(test)]
 mod steps;
