@@ -13,14 +13,10 @@ use Rattle.cert_format.specs.Certificates.{NodeOf, CertificateOf}
 use Rattle.cert_checker.specs.Conditions.{known, c9, c11, node_fault}
 use Rattle.cert_checker.specs.Small.{IsSmallAt, AreSmallAt}
 use Rattle.std.proofs.Common.{Ok}
-use Rattle.cert_checker.specs.Verdicts.{or_else, refused_at, first_cell, first_start, first_node, first_failure, bounds_of, verdict_from, verdict_of}
-use Rattle.cert_checker.specs.declared.verdict.Refusal.{Refusal}
-use Rattle.cert_checker.specs.declared.verdict.Place.TheVariants as place
+use Rattle.cert_checker.specs.Verdicts.{first_of, cell_refusal, start_refusal, node_refusal, first_failure, bounds_of, verdict_from, verdict_of}
+use Rattle.cert_checker.proofs.First.{or_none, each_passes}
+use Rattle.cert_checker.proofs.Exact.{map_none}
 use Rattle.cert_checker.proofs.Nodes.{Keeps, node_keeps}
-
-pub or_none : (o p : Option Refusal) → or_else o p ≡ None → (o ≡ None) × (p ≡ None)
-or_none None p h = (refl, h)
-or_none (Some r) p h = absurd (none-some r (sym h))
 
 -- each marker of a list passes where each that it has does
 each_marker : (P : ℕ → Type 0) (ms : List ℕ) → ((m : ℕ) → has_marker ms m ≡ true → P m) → AllByRecursion P ms
@@ -49,20 +45,10 @@ le_of : (r q : ℤ) → int_le r q ≡ true → r ≤ℤ q
 le_of r q h = grind (arith, ints)
 
 module _ {T : Type 0} (d : Domain T) (plan : PlanLines) (price : ℕ → ℕ) (c : CertificateOf T) (laws : FormLaws d) where
-  one_none : (k : ℕ) (n : NodeOf T) (ns : List (NodeOf T)) (o : Option Cond) → node_fault d plan c.cells price c.nodes n ≡ o
-      → (first_node d plan price c (k + 1) ns ≡ None → AllByRecursion (λ m. node_fault d plan c.cells price c.nodes m ≡ None) ns)
-      → refused_at k n o (first_node d plan price c (k + 1) ns) ≡ None → AllByRecursion (λ m. node_fault d plan c.cells price c.nodes m ≡ None) (n ∷ ns)
-  one_none k n ns None e more h = (e, more h)
-  one_none k n ns (Some cond) e more h = absurd (none-some (record { place = place.Node k; addr = n.addr; cond = cond }) (sym h))
-
-  pub no_node : (k : ℕ) (ns : List (NodeOf T)) → first_node d plan price c k ns ≡ None → AllByRecursion (λ m. node_fault d plan c.cells price c.nodes m ≡ None) ns
-  no_node k [] h = tt
-  no_node k (n ∷ ns) h = one_none k n ns (node_fault d plan c.cells price c.nodes n) refl (no_node (k + 1) ns) h
-
   small_at : (at : ℕ) → is_marker plan at ≡ true → (n : NodeOf T) → node_fault d plan c.cells price c.nodes n ≡ None → IsSmallAt d c.cells at n
   unfolding c9 c11
-  small_at at marker n h e =
-      let k = node_keeps d plan c.cells price c.nodes n h in
+  small_at at marker n h e live =
+      let k = node_keeps d plan c.cells price c.nodes n live h in
       let x = known d c.cells n in
       let fits = not_other (is_marker plan n.addr) (int_le (upper d n.rank x) (pos (2 ^ 63 - 1))) k.fits (subst (λ (a : ℕ). is_marker plan a ≡ true) (sym e) marker) in
       small (upper d n.rank x) (lower d n.rank x) (price n.addr) (le_of (pos (price n.addr)) (lower d n.rank x) k.priced) (laws.ordered n.rank x) (le_of (upper d n.rank x) (pos (2 ^ 63 - 1)) fits)
@@ -73,9 +59,10 @@ module _ {T : Type 0} (d : Domain T) (plan : PlanLines) (price : ℕ → ℕ) (c
 
   pub bounds_fit : first_failure d plan price c ≡ None → AllByRecursion (AreSmallAt d c.cells c.nodes) plan.markers
   bounds_fit h =
-      let cells = or_none (first_cell plan 0 c.cells) _ h in
-      let starts = or_none (first_start d plan c 0 plan.starts) (first_node d plan price c 0 c.nodes) cells.1 in
-      each_marker (AreSmallAt d c.cells c.nodes) plan.markers (λ m e. all_small m e c.nodes (no_node 0 c.nodes starts.1))
+      let cells = or_none (first_of (cell_refusal plan) 0 c.cells) _ h in
+      let starts = or_none (first_of (start_refusal d plan c) 0 plan.starts) (first_of (node_refusal d plan price c) 0 c.nodes) cells.1 in
+      let nodes = each_passes (node_refusal d plan price c) (λ (n : NodeOf T). node_fault d plan c.cells price c.nodes n ≡ None) (λ k n e. map_none _ (node_fault d plan c.cells price c.nodes n) e) 0 c.nodes starts.1 in
+      each_marker (AreSmallAt d c.cells c.nodes) plan.markers (λ m e. all_small m e c.nodes nodes)
 
   pub yes_is : first_failure d plan price c ≡ None → Ok (bounds_of d plan c) ≡ verdict_of d plan price c
   unfolding verdict_of

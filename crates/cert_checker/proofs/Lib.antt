@@ -1,6 +1,9 @@
 pub mod Places
 pub mod Nodes
 pub mod Greatest
+pub mod First
+pub mod Exact
 pub mod Fits
+pub mod Listing
 pub mod Steps
 pub mod Runs

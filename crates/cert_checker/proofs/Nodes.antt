@@ -13,6 +13,7 @@ use Rattle.memory_plan.specs.Plans.{PlanLines, is_marker, in_code, word_at}
 use Rattle.flag_relation.specs.Facts.{FactOf}
 use Rattle.abs_step.proofs.FaultLaws.{no_fault_keeps}
 use Rattle.flag_relation.specs.Order.{includes}
+use Rattle.flag_relation.specs.Emptiness.{is_empty}
 use Rattle.abs_step.specs.OutcomeLists.{OutcomeOf}
 use Rattle.abs_step.specs.States.{IsOutcome, SomeOutcome}
 use Rattle.abs_step.specs.Conditions.{unless, keeps, is_some, fault, outcomes}
@@ -68,12 +69,13 @@ module _ {T : Type 0} (d : Domain T) (plan : PlanLines) (cells : List ℕ) (pric
     pub falls : c10 d plan cells price nodes n (outcomes d plan cells n.addr (known d cells n)) ≡ true
     pub fits : c11 d plan cells n ≡ true
 
-  pub node_keeps : (n : NodeOf T) → node_fault d plan cells price nodes n ≡ None → Keeps n
+  -- of a fact that isn't empty
+  pub node_keeps : (n : NodeOf T) → is_empty d (known d cells n) ≡ false → node_fault d plan cells price nodes n ≡ None → Keeps n
   unfolding node_fault flow_fault
-  node_keeps n h =
+  node_keeps n live h =
       let os = outcomes d plan cells n.addr (known d cells n) in
       let both = earlier_none (fault d plan cells n.addr (known d cells n)) _ h in
-      let a = unless_none (c8 d cells nodes n os) C8 _ both.1 in
+      let a = unless_none (c8 d cells nodes n os) C8 _ (rw live at both.1) in
       let b = unless_none (c9 d plan cells price n) C9 _ a.1 in
       let e = unless_none (c10 d plan cells price nodes n os) C10 _ b.1 in
       let g = unless_none (c11 d plan cells n) C11 None e.1 in

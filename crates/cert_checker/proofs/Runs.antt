@@ -1,5 +1,5 @@
 -- Whole runs: each state is at a node, and ranks fall until a marker is met.
-use Rattle.std.proofs.Common.{◌≡◌, ℕ, zero, suc, ◌+◌, ◌<◌, ◌≤◌, ◌==◌, List, [], ◌∷◌, Option, Some, None, refl, sym, ◌∙◌, ap, subst, length, arith, Bool, true, false, slice_get, slice_index, inl, inr, ℤ, pos, negsuc, ◌+ℤ◌, ◌≤ℤ◌, add-one, max, unsigned_abs, map, if◌then◌else◌}
+use Rattle.std.proofs.Common.{◌≡◌, ℕ, zero, suc, ◌+◌, ◌<◌, ◌≤◌, ◌==◌, ◌&&◌, not, List, [], ◌∷◌, Option, Some, None, refl, sym, ◌∙◌, ap, subst, length, arith, Bool, true, false, slice_get, slice_index, inl, inr, ℤ, pos, negsuc, ◌+ℤ◌, ◌≤ℤ◌, add-one, max, unsigned_abs, map, if◌then◌else◌}
 use Rattle.std.specs.List.{AllByRecursion}
 use Rattle.std.proofs.lemmas.Bool.{cases_Bool}
 use Rattle.std.proofs.lemmas.Bool.Decides.{Decides-eqb}
@@ -13,6 +13,7 @@ use Rattle.memory_plan.specs.Plans.{PlanLines, IsStart, is_marker, in_code}
 use Rattle.memory_plan.specs.Runs.{IsRun, IsFair, MeetsMarker, AllSafe}
 use Rattle.memory_plan.specs.WellFormed.{IsWellFormed}
 use Rattle.flag_relation.specs.Laws.{FactLaws}
+use Rattle.flag_relation.specs.Emptiness.{is_empty}
 use Rattle.rank_form.specs.Bounds.{upper}
 use Rattle.rank_form.specs.Laws.{BoundLaws}
 use Rattle.abs_step.specs.States.{numbers_in}
@@ -101,14 +102,14 @@ module _ {T : Type 0} (d : Domain T) (plan : PlanLines) (price : ℕ → ℕ) (c
   -- ---- markers
 
   -- no node at the address has a greater upper bound than the marker's
-  bound_above : (at : ℕ) (nodes : List (NodeOf T)) (k : ℕ) (n : NodeOf T) → slice_get nodes k ≡ Some n → n.addr ≡ at
+  bound_above : (at : ℕ) (nodes : List (NodeOf T)) (k : ℕ) (n : NodeOf T) → slice_get nodes k ≡ Some n → n.addr ≡ at → is_empty d (known d c.cells n) ≡ false
       → IsAtMost (unsigned_abs (upper d n.rank (known d c.cells n))) (bound_at d c.cells at nodes)
-  bound_above at [] k n h e = absurd (none-some n h)
-  bound_above at (m ∷ ms) zero n h e =
+  bound_above at [] k n h e live = absurd (none-some n h)
+  bound_above at (m ∷ ms) zero n h e live =
       let same : m ≡ n = same_Some m n h in
       let test : (n.addr == at) ≡ true = (Decides-eqb n.addr at).1 e in
-      rw (same, test) (raised_bounds (unsigned_abs (upper d n.rank (known d c.cells n))) (bound_at d c.cells at ms))
-  bound_above at (m ∷ ms) (suc k) n h e = either_way (m.addr == at) (bound_above at ms k n h e)
+      rw (same, test, live) (raised_bounds (unsigned_abs (upper d n.rank (known d c.cells n))) (bound_at d c.cells at ms))
+  bound_above at (m ∷ ms) (suc k) n h e live = either_way (m.addr == at && not (is_empty d (known d c.cells m))) (bound_above at ms k n h e live)
     where
       either_way : (b : Bool) → IsAtMost (unsigned_abs (upper d n.rank (known d c.cells n))) (bound_at d c.cells at ms)
           → IsAtMost (unsigned_abs (upper d n.rank (known d c.cells n))) (if b then raised (unsigned_abs (upper d m.rank (known d c.cells m))) (bound_at d c.cells at ms) else bound_at d c.cells at ms)
@@ -156,11 +157,11 @@ module _ {T : Type 0} (d : Domain T) (plan : PlanLines) (price : ℕ → ℕ) (c
     running = λ k s h. (at_each states answers run k s h).here.meets.kept.running;
     code = λ k s h.
         let a = at_each states answers run k s h in
-        let kept = keeps d plan price c facts bounds steps well up local a.node (record { place = a.here.number; there = a.here.there }) in
+        let kept = keeps d plan price c facts bounds steps well up local a.node s (record { place = a.here.number; there = a.here.there }) a.here.meets in
         rw a.here.place (keeps_in_code d plan c.cells a.node.addr (known d c.cells a.node) kept.no_fault);
     tidy = λ k s inside h.
         let a = at_each states answers run k s h in
-        let kept = keeps d plan price c facts bounds steps well up local a.node (record { place = a.here.number; there = a.here.there }) in
+        let kept = keeps d plan price c facts bounds steps well up local a.node s (record { place = a.here.number; there = a.here.there }) a.here.meets in
         (steps.cover well up (known d c.cells a.node) s (slice_index answers k) a.here.meets (run.fair k s inside h)
         (subst (λ (at : ℕ). fault d plan c.cells at (known d c.cells a.node) ≡ None) (sym a.here.place) kept.no_fault)).tidy;
   }
@@ -177,7 +178,7 @@ module _ {T : Type 0} (d : Domain T) (plan : PlanLines) (price : ℕ → ℕ) (c
     where
       at_marker : {s : State} (a : At s) → s.p ≡ m → rank_in d plan price c a.node s ≤ℤ pos bound
       at_marker {s} a here_m =
-          let most = bound_above m c.nodes a.here.number a.node a.here.there (sym a.here.place ∙ here_m) in
+          let most = bound_above m c.nodes a.here.number a.node a.here.there (sym a.here.place ∙ here_m) (facts.emptiness.met (known d c.cells a.node) (numbers_in c.cells s) s.b a.here.meets.meets) in
           let both_are : Within most.bound ≡ Within bound = sym most.is ∙ e in
           let same : most.bound ≡ bound = cc (both_are) in
           at_most_sum (rank_in d plan price c a.node s) (upper d a.node.rank (known d c.cells a.node)) bound
@@ -185,7 +186,7 @@ module _ {T : Type 0} (d : Domain T) (plan : PlanLines) (price : ℕ → ℕ) (c
           (small (upper d a.node.rank (known d c.cells a.node)) bound (omega (arith, most.le, same)))
   claimed m Unreached e = λ states answers run k s h here_m.
       let a = at_each states answers run k s h in
-      let most = bound_above m c.nodes a.here.number a.node a.here.there (sym a.here.place ∙ here_m) in
+      let most = bound_above m c.nodes a.here.number a.node a.here.there (sym a.here.place ∙ here_m) (facts.emptiness.met (known d c.cells a.node) (numbers_in c.cells s) s.b a.here.meets.meets) in
       let both_are : Within most.bound ≡ Unreached = sym most.is ∙ e in
       absurd (cc (both_are))
 

@@ -48,11 +48,12 @@ other_side false c h f = h
 module _ {T : Type 0} (d : Domain T) (plan : PlanLines) (price : ℕ → ℕ) (c : CertificateOf T)
     (facts : FactLaws d) (bounds : BoundLaws d) (steps : StepLaws d plan c.cells)
     (well : IsWellFormed plan) (up : Ascend c.cells) (local : Local d plan price c) where
-  -- what is kept of each node that stands in the list
-  pub keeps : (n : NodeOf T) → Stands c.nodes n → Keeps d plan c.cells price c.nodes n
-  keeps n st =
+  -- what is kept of each node that stands in the list, if some state meets its fact
+  pub keeps : (n : NodeOf T) (s : State) → Stands c.nodes n → MeetsFact d plan c.cells (known d c.cells n) s → Keeps d plan c.cells price c.nodes n
+  keeps n s st m =
       let e : get_or c.nodes st.place n ≡ n = get_or_from_slice_get c.nodes st.place n n st.there in
-      node_keeps d plan c.cells price c.nodes n (rw e at (local.nodes st.place n (slice_get_within c.nodes st.place n st.there)))
+      let live = facts.emptiness.met (known d c.cells n) (numbers_in c.cells s) s.b m.meets in
+      node_keeps d plan c.cells price c.nodes n live (rw e at (local.nodes st.place n (slice_get_within c.nodes st.place n st.there)))
 
   -- a state that meets a fact meets each that includes it
   meets_larger : (f g : FactOf T) (s : State) → includes d g f ≡ true → MeetsFact d plan c.cells f s → MeetsFact d plan c.cells g s
@@ -77,7 +78,7 @@ module _ {T : Type 0} (d : Domain T) (plan : PlanLines) (price : ℕ → ℕ) (c
         there = st.there;
         place = place;
         meets = m;
-        rank = subst (λ (at : ℕ). pos (price at) ≤ℤ rank_in d plan price c n s) (sym place) (priced n s (keeps n st) m);
+        rank = subst (λ (at : ℕ). pos (price at) ≤ℤ rank_in d plan price c n s) (sym place) (priced n s (keeps n s st m) m);
       }
 
   -- ---- starts
@@ -123,7 +124,7 @@ module _ {T : Type 0} (d : Domain T) (plan : PlanLines) (price : ℕ → ℕ) (c
   step_goes s answer n here fair =
       let u : State = next plan.profile s answer in
       let f = known d c.cells n in
-      let k = keeps n (record { place = here.number; there = here.there }) in
+      let k = keeps n s (record { place = here.number; there = here.there }) here.meets in
       let os = outcomes d plan c.cells n.addr f in
       let covered = steps.cover well up f s answer here.meets fair (rw here.place k.no_fault) in
       let parts = and_parts (are_distinct c.nodes n.succ) (list_all (λ o. includes_after d c.cells o (successor c.nodes n.succ o.target)) os) k.flows in

@@ -1,11 +1,12 @@
 -- The local conditions of a certificate: each is read at one cell, one start or one node alone.
-use Rattle.std.specs.Prelude.{◌≡◌, ℕ, ◌-◌, ◌^◌, ℤ, pos, neg_ℤ, int_le, Bool, true, false, not, ◌&&◌, ◌||◌, ◌==◌, List, [], ◌∷◌, length, Option, Some, None, is_some, All, slice_get}
+use Rattle.std.specs.Prelude.{◌≡◌, ℕ, ◌-◌, ◌^◌, ℤ, pos, neg_ℤ, int_le, Bool, true, false, not, ◌&&◌, ◌||◌, ◌==◌, if◌then◌else◌, List, [], ◌∷◌, length, Option, Some, None, is_some, All, slice_get}
 use Rattle.std.specs.List.{list_any, list_all}
 use Rattle.num_domain.specs.Domain.{Domain}
 use Rattle.memory_plan.specs.Plans.{PlanLines, range_at, is_marker}
 use Rattle.memory_plan.specs.declared.start.Start.{Start}
 use Rattle.flag_relation.specs.Facts.{FactOf, unknown}
 use Rattle.flag_relation.specs.Order.{includes}
+use Rattle.flag_relation.specs.Emptiness.{is_empty}
 use Rattle.rank_form.specs.Bounds.{upper, lower, rise}
 use Rattle.abs_step.specs.OutcomeLists.{OutcomeOf}
 use Rattle.abs_step.specs.Starts.{start_fact}
@@ -74,13 +75,14 @@ module _ {T : Type 0} (d : Domain T) (plan : PlanLines) (cells : List ℕ) (pric
   c10 nodes n os =
       list_all (λ o. is_marker plan o.target || falls_to n o (successor nodes n.succ o.target)) os
 
-  -- the first of C8 to C11 that fails
+  -- the first of C8 to C11 that fails; all hold of an empty fact, which no state meets
   unfoldable pub flow_fault : List (NodeOf T) → NodeOf T → List (OutcomeOf T) → Option Cond
-  flow_fault nodes n os =
-      unless (c8 d cells nodes n os) C8
+  flow_fault nodes n os = (
+      if is_empty d (known d cells n) then None
+      else unless (c8 d cells nodes n os) C8
       (unless (c9 n) C9
       (unless (c10 nodes n os) C10
-      (unless (c11 d plan cells n) C11 None)))
+      (unless (c11 d plan cells n) C11 None))))
 
   -- the first of C1 to C11 that fails
   unfoldable pub node_fault : List (NodeOf T) → NodeOf T → Option Cond

@@ -4,3 +4,6 @@ pub mod Conditions
 pub mod Verdicts
 pub mod Small
 pub mod Claims
+pub mod Exactness
+pub mod Filling
+pub mod Claiming

@@ -1,10 +1,11 @@
 -- What the checker answers: the first failure, or a bound for each marker.
-use Rattle.std.specs.Prelude.{ℕ, ◌+◌, List, [], ◌∷◌, map, max, Option, Some, None, Result, Ok, Err, unsigned_abs, ◌==◌, if◌then◌else◌}
+use Rattle.std.specs.Prelude.{ℕ, ◌+◌, Bool, not, ◌&&◌, option_map, List, [], ◌∷◌, map, max, Option, Some, None, Result, Ok, Err, unsigned_abs, ◌==◌, if◌then◌else◌}
 use Rattle.num_domain.specs.Domain.{Domain}
 use Rattle.memory_plan.specs.Plans.{PlanLines}
 use Rattle.memory_plan.specs.declared.start.Start.{Start}
 use Rattle.abs_step.specs.declared.outcome.Cond.{Cond}
 use Rattle.abs_step.specs.declared.outcome.Cond.TheVariants.{H1, H2}
+use Rattle.flag_relation.specs.Emptiness.{is_empty}
 use Rattle.rank_form.specs.Bounds.{upper}
 use Rattle.cert_format.specs.Certificates.{NodeOf, CertificateOf}
 use Rattle.cert_checker.specs.Conditions.{is_data, known, is_start_covered, node_fault}
@@ -20,50 +21,50 @@ abbrev pub or_else : Option Refusal → Option Refusal → Option Refusal
 or_else None other = other
 or_else (Some r) other = Some r
 
--- the first cell that is no word of data, counted from k
-abbrev pub first_cell : PlanLines → ℕ → List ℕ → Option Refusal
-first_cell plan k [] = None
-first_cell plan k (c ∷ cs) = (
-    if is_data plan c then first_cell plan (k + 1) cs
-    else Some (record { place = place.Cell k; addr = c; cond = H1 }))
+-- the refusal, unless the test holds
+abbrev pub refuse : Bool → Refusal → Option Refusal
+refuse b r = if b then None else Some r
+
+-- the first refusal of the elements of a list, which are counted from k
+abbrev pub first_of : {A : Type 0} → (ℕ → A → Option Refusal) → ℕ → List A → Option Refusal
+first_of refusal k [] = None
+first_of refusal k (x ∷ xs) = or_else (refusal k x) (first_of refusal (k + 1) xs)
+
+-- a cell that is no word of data
+abbrev pub cell_refusal : PlanLines → ℕ → ℕ → Option Refusal
+cell_refusal plan k c = refuse (is_data plan c) (record { place = place.Cell k; addr = c; cond = H1 })
+
+module _ {T : Type 0} (d : Domain T) (plan : PlanLines) (c : CertificateOf T) where
+  -- a start that no listed node covers
+  abbrev pub start_refusal : ℕ → Start → Option Refusal
+  start_refusal k s = refuse (is_start_covered d plan c.cells c.nodes c.starts s)
+      (record { place = place.Start k; addr = s.at; cond = H2 })
+
+module _ {T : Type 0} (d : Domain T) (plan : PlanLines) (price : ℕ → ℕ) (c : CertificateOf T) where
+  -- a node at which a condition fails
+  abbrev pub node_refusal : ℕ → NodeOf T → Option Refusal
+  node_refusal k n =
+      option_map (λ cond. record { place = place.Node k; addr = n.addr; cond = cond })
+      (node_fault d plan c.cells price c.nodes n)
+
+  -- the first failure: cells in order, then starts, then nodes
+  abbrev pub first_failure : Option Refusal
+  first_failure = or_else (first_of (cell_refusal plan) 0 c.cells)
+      (or_else (first_of (start_refusal d plan c) 0 plan.starts) (first_of node_refusal 0 c.nodes))
 
 -- the greater of a number and a bound
 abbrev pub raised : ℕ → Bound → Bound
 raised rank Unreached = Within rank
 raised rank (Within bound) = Within (max rank bound)
 
-module _ {T : Type 0} (d : Domain T) (plan : PlanLines) (c : CertificateOf T) where
-  -- the first start that no listed node covers, counted from k
-  abbrev pub first_start : ℕ → List Start → Option Refusal
-  first_start k [] = None
-  first_start k (s ∷ ss) = (
-      if is_start_covered d plan c.cells c.nodes c.starts s then first_start (k + 1) ss
-      else Some (record { place = place.Start k; addr = s.at; cond = H2 }))
-
--- the failure of the node of that number, or else the others
-abbrev pub refused_at : {T : Type 0} → ℕ → NodeOf T → Option Cond → Option Refusal → Option Refusal
-refused_at k n None others = others
-refused_at k n (Some cond) others = Some (record { place = place.Node k; addr = n.addr; cond = cond })
-
-module _ {T : Type 0} (d : Domain T) (plan : PlanLines) (price : ℕ → ℕ) (c : CertificateOf T) where
-  -- the first node at which a condition fails, counted from k
-  abbrev pub first_node : ℕ → List (NodeOf T) → Option Refusal
-  first_node k [] = None
-  first_node k (n ∷ ns) =
-      refused_at k n (node_fault d plan c.cells price c.nodes n) (first_node (k + 1) ns)
-
-  -- the first failure: cells in order, then starts, then nodes
-  abbrev pub first_failure : Option Refusal
-  first_failure = or_else (first_cell plan 0 c.cells)
-      (or_else (first_start d plan c 0 plan.starts) (first_node 0 c.nodes))
-
 module _ {T : Type 0} (d : Domain T) where
-  -- The greatest upper bound of the ranks of the nodes at an address, and Unreached where none stands
-  -- there. Where all conditions hold each is at least 1, and so its size is the bound itself.
+  -- The greatest upper bound of the ranks of the nodes at an address whose facts aren't empty, and
+  -- Unreached where none stands there. Where all conditions hold each is at least 1, and so its size is
+  -- the bound itself.
   abbrev pub bound_at : List ℕ → ℕ → List (NodeOf T) → Bound
   bound_at cells at [] = Unreached
   bound_at cells at (n ∷ ns) = (
-      if n.addr == at then raised (unsigned_abs (upper d n.rank (known d cells n))) (bound_at cells at ns)
+      if n.addr == at && not (is_empty d (known d cells n)) then raised (unsigned_abs (upper d n.rank (known d cells n))) (bound_at cells at ns)
       else bound_at cells at ns)
 
   -- each marker with its bound, in the plan's order

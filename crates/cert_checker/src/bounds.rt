@@ -30,7 +30,7 @@ fn raised(rank: u64, bound: Bound) -> Bound
     }
 }
 
-/// The greatest rank of the nodes at an address.
+/// The greatest rank of the nodes at an address whose facts aren't empty.
 fn bound_at<D: Spelled>(cert: &CertOf<D>, at: Addr) -> Bound
     requires judged { IsJudged cert.now }
     requires small { AreSmallAt D.domain cert.now.cells cert.now.nodes at }
@@ -38,7 +38,7 @@ fn bound_at<D: Spelled>(cert: &CertOf<D>, at: Addr) -> Bound
 {
     let mut bound = Bound::Unreached;
     for i in 0..cert.len() {
-        if cert.addr(i) == at {
+        if cert.addr(i) == at && !known(cert, i).is_empty() {
             bound = raised(size(upper(cert.rank(i), known(cert, i))), bound);
         }
     }

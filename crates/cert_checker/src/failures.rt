@@ -7,7 +7,7 @@ ghost use Rattle.cert_format.specs.Certificates.{node_at};
 ghost use Rattle.cert_format.specs.Limits.{IsBelow};
 ghost use Rattle.cert_checker.specs.Judged.{IsJudged};
 ghost use Rattle.cert_checker.specs.Conditions.{is_data, covers_start, is_start_covered};
-ghost use Rattle.cert_checker.specs.Verdicts.{first_cell, first_start, first_node, first_failure};
+ghost use Rattle.cert_checker.specs.Verdicts.{first_of, cell_refusal, start_refusal, node_refusal, first_failure};
 
 use crate::node::node_fault;
 use crate::reading::known;
@@ -20,7 +20,7 @@ use viper_word::Addr;
 
 /// The first cell that is no word of data.
 fn first_cell(plan: &Plan, cells: &[Addr]) -> Option<Refusal>
-    ensures { result ≡ first_cell plan.now 0 cells.now }
+    ensures { result ≡ first_of (cell_refusal plan.now) 0 cells.now }
 {
     for (i, cell) in cells.iter().enumerate() {
         if plan.data_range(*cell).is_none() {
@@ -79,7 +79,7 @@ fn first_start<D: Spelled>(
 ) -> Option<Refusal>
     requires judged { IsJudged cert.now }
     requires room { length fact.old.cells ≡ length cert.now.cells }
-    ensures { result ≡ first_start D.domain plan.now cert.now 0 starts.now }
+    ensures { result ≡ first_of (start_refusal D.domain plan.now cert.now) 0 starts.now }
 {
     for (i, start) in starts.iter().enumerate() {
         start_fact(plan, cert.cells(), start, fact);
@@ -103,7 +103,8 @@ fn first_node<D: Spelled>(
 ) -> Option<Refusal>
     requires judged { IsJudged cert.now }
     requires room { scratch.old.cells ≡ length cert.now.cells }
-    ensures { result ≡ first_node D.domain plan.now (λ _. price) cert.now 0 cert.now.nodes }
+    ensures { result ≡ first_of (node_refusal D.domain plan.now (λ _. price) cert.now) 0
+        cert.now.nodes }
 {
     for i in 0..cert.len() {
         if let Some(cond) = node_fault(plan, cert, i, price, scratch) {

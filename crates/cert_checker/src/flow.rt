@@ -106,7 +106,7 @@ fn fits<D: Spelled>(plan: &Plan, cert: &CertOf<D>, i: u32) -> bool
     !plan.is_marker(cert.addr(i)) || upper(cert.rank(i), known(cert, i)) <= MOST_BOUND
 }
 
-/// The first of C8 to C11 that fails at the node, whose outcomes these are.
+/// The first of C8 to C11 that fails at the node, whose outcomes these are. All hold of an empty fact.
 #[tactic(auto, unfolding(crate::specs::Conditions::c8, crate::specs::Conditions::c9, crate::specs::Conditions::c10, crate::specs::Conditions::flow_fault))]
 pub(crate) fn flow_fault<D: Spelled>(
     plan: &Plan,
@@ -121,6 +121,9 @@ pub(crate) fn flow_fault<D: Spelled>(
     ensures { result ≡ flow_fault D.domain plan.now cert.now.cells (λ _. price) cert.now.nodes
         (node_at cert.now i) outs.now }
 {
+    if known(cert, i).is_empty() {
+        return None;
+    }
     if !(are_distinct(cert, listed(cert, i)) && are_included(cert, i, outs)) {
         return Some(Cond::C8);
     }

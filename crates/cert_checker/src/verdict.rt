@@ -14,7 +14,7 @@ pub enum Place {
     Node(u64),
 }
 
-/// What a yes says of a marker. docs/METHOD.md, "Verdicts".
+/// What a yes says of a marker. docs/METHOD.md, "The whole checker".
 #[derive(Clone, Copy, Debug, PartialEq, Eq)]
 pub enum Bound {
     /// From it the next marker is met within so many instructions.
@@ -31,7 +31,7 @@ pub struct Refusal {
     pub cond: Cond,
 }
 
-/// What the checker says. docs/METHOD.md, "Verdicts".
+/// What the checker says. docs/METHOD.md, "The whole checker".
 #[derive(Debug, Drop)]
 pub enum Verdict {
     /// All local conditions hold. Each marker of the plan, in its order, with its bound.

@@ -1,0 +1,10 @@
+pub mod Loops
+pub mod FieldLaws
+pub mod FieldLimits
+pub mod FlagLaws
+pub mod PutLaws
+pub mod PlaceLaws
+pub mod KeepingLaws
+pub mod KeepingSteps
+pub mod RankLaws
+pub mod NodeLoops

@@ -1,0 +1,11 @@
+use Rattle.flag_relation.proofs.AllLaws.{fact_laws}
+use Rattle.rank_form.proofs.StateLaws.{bound_laws}
+use Rattle.abs_step.proofs.AllStepLaws.{step_laws}
+use Rattle.cert_checker.proofs.Runs.{suffices}
+use Rattle.cert_checker.proofs.laws.local_conditions_suffice.Goals as goal
+
+pub returns : goal.returns
+returns g c = λ plan price cert well up priced local.
+    let d = g.D.NumDomain.domain in
+    let laws = g.met.D.NumDomain.laws in
+    suffices d plan price cert (fact_laws d laws) (bound_laws d laws) (step_laws d laws plan cert.cells) well up priced local

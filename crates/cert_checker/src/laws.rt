@@ -1,0 +1,25 @@
+//! What a yes and a no say.
+
+ghost use Rattle.std.specs.Prelude.{ℕ};
+ghost use Rattle.memory_plan.specs.Plans.{PlanLines};
+ghost use Rattle.cert_format.specs.Certificates.{CertificateOf};
+ghost use Rattle.cert_checker.specs.Claims.{LocalSuffices};
+ghost use Rattle.cert_checker.specs.Exactness.{IsExact};
+
+use num_domain::NumDomain;
+
+/// Local conditions suffice: over any domain, for any plan that was read, any cells in ascending order
+/// and any price of instructions of at least 1, they carry the facts and the ranks over every fair run.
+/// So every fair run is safe, and from each marker the next is met within its bound, or no run comes
+/// there. docs/METHOD.md, "Why a yes is true".
+pub fn local_conditions_suffice<D: NumDomain>()
+    ensures { (plan : PlanLines) (price : ℕ → ℕ) (c : CertificateOf D)
+        → LocalSuffices D.domain plan price c }
+{}
+
+/// A yes comes exactly where all local conditions hold, with the bounds; and a no, with the first that
+/// fails, exactly where one does. docs/METHOD.md, "The whole checker".
+pub fn yes_exactly_where_local<D: NumDomain>()
+    ensures { (plan : PlanLines) (price : ℕ → ℕ) (c : CertificateOf D)
+        → IsExact D.domain plan price c }
+{}

@@ -1,0 +1,66 @@
+//! For each node the first that lists it.
+
+ghost use Rattle.std.specs.Prelude.{◌≡◌, length, replicate, None, IfOk};
+ghost use Rattle.std.specs.List.{AllByRecursion};
+ghost use Rattle.cert_format.specs.Limits.{IsBelow, IsWithinLimits};
+ghost use Rattle.cert_checker.specs.Claiming.{or_first, claimed_all, AreListers};
+
+use cert_format::{CertOf, Spelled};
+use std::alloc::Global;
+use viper_word::Memory;
+
+/// The first of both.
+fn or_first(earlier: Option<u32>, number: u32) -> Option<u32>
+    ensures { result ≡ or_first earlier number }
+{
+    match earlier {
+        None => Some(number),
+        Some(first) => Some(first),
+    }
+}
+
+/// Lets the node of that number be the lister of each of the listed that has none yet.
+#[tactic(auto, unfolding(crate::specs::Claiming::claimed_all))]
+fn claim(listers: &mut [Option<u32>], number: u32, listed: &[u32])
+    requires { AllByRecursion (IsBelow (length listers.old)) listed.now }
+    ensures claimed { listers.new ≡ claimed_all number listers.old listed.now }
+    ensures count { length listers.new ≡ length listers.old }
+{
+    match listed {
+        [] => (),
+        [first, others @ ..] => {
+            let slot = *first as usize;
+            listers[slot] = or_first(listers[slot], number);
+            claim(listers, number, others);
+        }
+    }
+}
+
+/// So many nodes without a lister.
+fn unlisted(alloc: Global, count: u32) -> Result<Vec<Option<u32>>, Memory>
+    ensures { IfOk result (λ v. v.items ≡ replicate count None) }
+{
+    let mut listers = Vec::new(alloc);
+    for _ in 0..count {
+        match listers.push(None) {
+            Ok(()) => (),
+            Err(_) => return Err(Memory),
+        }
+    }
+    Ok(listers)
+}
+
+/// The first lister of each node, by its number. `Memory` for want of memory.
+pub(crate) fn listers<D: Spelled>(
+    alloc: Global,
+    cert: &CertOf<D>,
+) -> Result<Vec<Option<u32>>, Memory>
+    requires { IsWithinLimits cert.now }
+    ensures { IfOk result (λ v. AreListers (length cert.now.nodes) cert.now.nodes v.items) }
+{
+    let mut listers = unlisted(alloc, cert.len())?;
+    for i in 0..cert.len() {
+        claim(listers.as_mut_slice(), i, cert.succ(i));
+    }
+    Ok(listers)
+}
