@@ -1,5 +1,8 @@
 //! The least solution of small programs, or why there is none.
 
+ghost use Rattle.std.specs.Prelude.{◌≤◌, length, IfOk};
+ghost use Rattle.val_rows.specs.declared.solutions.TheConstants.{LONGEST};
+
 use abs_step::Cond;
 use fix_solver::{SolveFault, Solved, solve};
 use memory_plan::{Plan, read_image, read_plan};
@@ -96,22 +99,38 @@ const ROWS: [Row; 21] = rows! {
         "data 00101 00108 0..255\n" "any any any any" => TooMany(65_537);
 };
 
+/// How many bytes a text has here at the most.
+const LONGEST: usize = 2_000;
+
+/// The bytes of a text, which is short.
+fn short(text: &str) -> Result<&[u8], Fail>
+    ensures { IfOk result (λ bytes. length bytes.now ≤ LONGEST) }
+{
+    let bytes = text.as_bytes();
+    if bytes.len() > LONGEST {
+        return Err("a text that is too long".into());
+    }
+    Ok(bytes)
+}
+
 /// The plan of a row over its words.
 fn plan_of(alloc: Global, row: &Row) -> Result<Plan, Fail> {
     let mut text = String::new(alloc);
     let mut to = row.from;
-    for (i, word) in row.words.split(' ').enumerate() {
-        to = row.from.saturating_add(i as u32);
+    let mut next = row.from;
+    for word in row.words.split(' ') {
+        to = next;
+        next = to.saturating_add(1);
         let line = format!(in alloc; "{to:05X} {word}\n")?;
         text.push_str(&line)?;
     }
-    let image = read_image(alloc, text.as_bytes())?;
+    let image = read_image(alloc, short(&text)?)?;
     let from = row.from;
     let (lines, start) = (row.lines, row.start);
     let plan = format!(in alloc;
         "code {from:05X} {to:05X}\n{lines}marker {from:05X}\nstart {from:05X} {start}\n"
     )?;
-    Ok(read_plan(alloc, plan.as_bytes(), &image)?)
+    Ok(read_plan(alloc, short(&plan)?, &image)?)
 }
 
 /// Does the fault say that?
