@@ -15,7 +15,7 @@ use viper_decode::Place;
 use viper_word::Addr;
 
 /// The number as an address.
-fn lawful<D: NumDomain>(n: i64, _domain: &D) -> Option<Addr>
+fn lawful<D: NumDomain>(n: i64) -> Option<Addr>
     ensures { result ≡ lawful_at D.domain n }
 {
     if 0 <= n && n <= i64::from(Addr::LAST) {
@@ -54,7 +54,7 @@ pub(crate) fn one_address<D: NumDomain>(place: &Place, side: &Fact<D>) -> Option
             Some((lo, hi)) => {
                 if lo == hi {
                     let n = sum(i64::from(a.get()), lo);
-                    reached(place, side, lawful(n, &side.reg(*r)))
+                    reached(place, side, lawful::<D>(n))
                 } else {
                     None
                 }

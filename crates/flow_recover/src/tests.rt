@@ -67,13 +67,22 @@ fn contexts_follow_calls_and_returns(rt: HostRuntime) -> Result<(), Fail> {
     Ok(())
 }
 
+/// How many bytes the text of a plan has here at the most.
+const LONGEST: usize = 1_000;
+
 /// The plan of these words from 00000 on.
 fn plan_of(alloc: Global, words: &[u32], plan: &str) -> Result<Plan, Fail> {
     let mut image = Image::new(alloc);
-    for (i, word) in words.iter().enumerate() {
-        image.put(Addr::new(i as u32).ok_or("an address")?, Word(*word))?;
+    let mut at: u32 = 0;
+    for word in words {
+        image.put(Addr::new(at).ok_or("an address")?, Word(*word))?;
+        at = at.saturating_add(1);
     }
-    Ok(read_plan(alloc, plan.as_bytes(), &image)?)
+    let text = plan.as_bytes();
+    if text.len() > LONGEST {
+        return Err("a plan that is too long".into());
+    }
+    Ok(read_plan(alloc, text, &image)?)
 }
 
 /// Words whose field names memory (a store, a read, a comparison, an illegal word) and words whose

@@ -7,6 +7,4 @@
 #[cfg(test)]
 mod facts;
 #[cfg(test)]
-mod solutions;
-#[cfg(test)]
 mod steps;
