@@ -1,0 +1,14 @@
+pub mod Certificates
+pub mod Limits
+pub mod Values
+pub mod Bare
+pub mod Spelling
+pub mod Kept
+pub mod Keeping
+pub mod Reading
+pub mod ReadValues
+pub mod Fields
+pub mod ReadNodes
+pub mod ReadCerts
+pub mod Laws
+pub mod evidence

@@ -1,0 +1,2 @@
+-- What is proved of the definitions: no reader need believe it.
+pub mod ValueForms

@@ -1,0 +1,21 @@
+//! Certificates and their bytes: what a checker reads and a certifier writes.
+//!
+//! A certificate is a graph whose nodes have an address, a fact, successors and a rank; facts that
+//! are equal are kept once. `read_cert` reads versions 1 and 2 and names the first rule that bytes
+//! break; `write_cert` writes version 2. docs/FORMATS.md, "Certificates", has the layout.
+#![tactic(auto)]
+
+mod cert;
+mod fault;
+mod fields;
+mod limits;
+mod read_values;
+mod spelled;
+mod unread;
+mod version;
+
+pub use cert::{Cert, CertOf};
+pub use fault::{CertFault, CertRule};
+pub use limits::{MOST_FACTOR, MOST_NODES, MOST_RANK, MOST_SUCCESSORS};
+pub use spelled::{SPELLED, Spelled};
+pub use version::Version;
