@@ -1,5 +1,5 @@
 -- The spelling of a certificate in each version. Numbers are big-endian.
-use Rattle.std.specs.Prelude.{◌≡◌, ℕ, ℤ, List, [], ◌∷◌, ◌++◌, length, Option, Some, None, IsSome}
+use Rattle.std.specs.Prelude.{◌≡◌, ℕ, ℤ, List, [], ◌∷◌, ◌++◌, length, take, Option, Some, None, IsSome}
 use Rattle.std.specs.List.{flat_map, AllByRecursion}
 use Rattle.val_dom.specs.declared.val.Val.{Val}
 use Rattle.flag_relation.specs.declared.atom.Atom.{Atom}
@@ -24,6 +24,10 @@ use Rattle.cert_format.specs.Bare.{AreRightlyBare}
 -- how many there are, in one byte, and each
 unfoldable pub counted_bytes : {X : Type 0} → (X → List ℕ) → List X → List ℕ
 counted_bytes bytes xs = length xs ∷ flat_map bytes xs
+
+-- the first bytes of a value's
+abbrev pub front : {T : Type 0} → ℕ → (T → List ℕ) → T → List ℕ
+front size bytes v = take size (bytes v)
 
 -- ---- facts
 

@@ -9,6 +9,8 @@ mod cert;
 mod fault;
 mod fields;
 mod limits;
+mod put;
+mod read_facts;
 mod read_values;
 mod spelled;
 mod unread;

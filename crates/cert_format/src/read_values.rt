@@ -1,6 +1,7 @@
 //! Reading values.
-ghost use Rattle.std.specs.Prelude.{◌≡◌, true};
-ghost use Rattle.viper_word.specs.Words.{is_signed};
+ghost use Rattle.std.specs.Prelude.{◌≡◌, ◌<◌, pos, ◌-ℤ◌, nat_abs};
+ghost use Rattle.viper_word.specs.Divisors.{divides};
+ghost use Rattle.viper_word.specs.Words.{IsSigned};
 ghost use Rattle.cert_format.specs.Reading.{Reads};
 ghost use Rattle.cert_format.specs.ReadValues.{value_of, parts_at, value_at};
 ghost use Rattle.cert_format.specs.evidence.ValueForms.{is_single, is_several, is_value, residue_of};
@@ -21,16 +22,24 @@ fn is_single(lo: i64, hi: i64, modulus: u32, residue: u32) -> bool
     lo == hi && (modulus == 0 && i64::from(residue.cast_signed()) == lo)
 }
 
+/// Has the number the residue?
+fn is_on(n: i64, modulus: u32, residue: u32) -> bool
+    requires some { 0 < modulus }
+    requires word { IsSigned n }
+    ensures { result ≡ divides modulus (nat_abs (n -ℤ pos residue)) }
+{
+    let gap = (n - i64::from(residue)).unsigned_abs();
+    gap % u64::from(modulus) == 0
+}
+
 /// Are both ends apart, and on the residue, which is below the modulus?
 fn is_several(lo: i64, hi: i64, modulus: u32, residue: u32) -> bool
-    requires low { is_signed lo ≡ true }
-    requires high { is_signed hi ≡ true }
+    requires low { IsSigned lo }
+    requires high { IsSigned hi }
     ensures { result ≡ is_several lo hi modulus residue }
 {
     lo < hi
-        && (residue < modulus
-            && ((lo - i64::from(residue)).unsigned_abs() % u64::from(modulus) == 0
-                && (hi - i64::from(residue)).unsigned_abs() % u64::from(modulus) == 0))
+        && (residue < modulus && (is_on(lo, modulus, residue) && is_on(hi, modulus, residue)))
 }
 
 /// Are the four numbers a value in normal form?

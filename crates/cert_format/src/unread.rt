@@ -2,8 +2,10 @@
 ghost use Rattle.std.specs.Prelude.{◌≡◌, length};
 ghost use Rattle.std.specs.Int.{w8, w32, w64};
 ghost use Rattle.cert_format.specs.Reading.{Reads, number_at};
+ghost use Rattle.cert_format.specs.Fields.{has_atom};
 
 use crate::fault::{CertRule, Fault, ReadError};
+use crate::limits::A_WORD;
 use std::marker::Model;
 
 /// Bytes that are still to be read. Contracts see them as a list.
@@ -84,5 +86,16 @@ impl<'a> Unread<'a> {
         Ok(u64::from_be_bytes([
             front[0], front[1], front[2], front[3], front[4], front[5], front[6], front[7],
         ]))
+    }
+
+    /// Is a comparison whole: three bytes, and a word after them where the third is FF?
+    #[tactic(auto, unfolding(crate::specs::Fields::has_atom))]
+    pub(crate) fn has_atom(&self) -> bool
+        ensures { result ≡ has_atom self.now }
+    {
+        match self.bytes {
+            [_, _, right, rest @ ..] => *right != A_WORD || 4 <= rest.len(),
+            [_, _] | [_] | [] => false,
+        }
     }
 }
