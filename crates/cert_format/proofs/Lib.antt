@@ -4,3 +4,7 @@ pub mod FieldLaws
 pub mod FieldLimits
 pub mod FlagLaws
 pub mod ValueLaws
+pub mod PutLaws
+pub mod PlaceLaws
+pub mod KeepingLaws
+pub mod KeepingSteps

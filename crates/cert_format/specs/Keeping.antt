@@ -1,7 +1,5 @@
 -- How a certificate is kept: equal facts once, found by a map over their bytes.
 use Rattle.std.specs.Prelude.{◌≡◌, ℕ, zero, suc, ◌<◌, ◌≤◌, ◌^◌, Bool, if◌then◌else◌, List, [], ◌∷◌, length, map, Option, Some, None, IfSome}
-use Rattle.std.specs.Ordering.{nat_cmp, is_eq}
-use Rattle.std.specs.Cmp.Lexicographic.{slice_cmp}
 use Rattle.std.specs.Global.{Vec}
 use Rattle.std.specs.List.{AllByRecursion, slice_get}
 use Rattle.std.specs.Map.{lookup}
@@ -16,18 +14,22 @@ use Rattle.cert_format.specs.Kept.{same, kept_facts}
 -- the place of the first item from that number on that is equal
 abbrev pub place_from : ℕ → List ℕ → List (List ℕ) → Option ℕ
 place_from n q [] = None
-place_from n q (k ∷ keys) = (if same k q then Some n else place_from (suc n) q keys)
+place_from n q (k ∷ keys) = (if same q k then Some n else place_from (suc n) q keys)
 
 abbrev pub place_of : List ℕ → List (List ℕ) → Option ℕ
 place_of q keys = place_from 0 q keys
 
 -- what the map has at those bytes
 abbrev pub found : List (Vec ℕ × ℕ) → List ℕ → Option ℕ
-found entries q = lookup (λ v. is_eq (slice_cmp nat_cmp q v.items)) entries
+found entries q = lookup (λ v. same q v.items) entries
 
 -- the map has the place of each of the keys, and nothing else
 abbrev pub ArePlaces : List (Vec ℕ × ℕ) → List (List ℕ) → Type 0
 ArePlaces entries keys = (q : List ℕ) → found entries q ≡ place_of q keys
+
+-- the number is entered at the key, and all else stays
+abbrev pub EntersPlace : List (Vec ℕ × ℕ) → List (Vec ℕ × ℕ) → List ℕ → ℕ → Type 0
+EntersPlace old new key n = (q : List ℕ) → found new q ≡ (if same q key then Some n else found old q)
 
 abbrev pub HasNumber : ℕ → Node → Type 0
 HasNumber count n = IfSome n.fact (λ i. i < count)
@@ -57,6 +59,7 @@ module _ {T : Type 0} where
   pub record IsKeeping (bytes : T → List ℕ) (cells : ℕ) (nodes : List Node)
       (kept : List (FactOf T)) (entries : List (Vec ℕ × ℕ)) : Type 0 where
     pub few : length nodes ≤ MOST_NODES
+    pub fewer : length kept ≤ length nodes
     pub addresses : AllByRecursion HasAddress nodes
     pub numbers : AllByRecursion (HasNumber (length kept)) nodes
     pub facts : AllByRecursion (IsFact cells) kept

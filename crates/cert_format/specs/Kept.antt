@@ -1,19 +1,20 @@
 -- The facts that a certificate keeps: each distinct fact once, in the order of first use.
-use Rattle.std.specs.Prelude.{◌≡◌, ℕ, zero, suc, nat_eq, Bool, if◌then◌else◌, List, [], ◌∷◌, ◌++◌, Option, Some, None}
+use Rattle.std.specs.Prelude.{◌≡◌, ℕ, zero, suc, Bool, if◌then◌else◌, List, [], ◌∷◌, ◌++◌, Option, Some, None}
 use Rattle.std.specs.List.{list_any, slice_get}
-use Rattle.std.specs.Cmp.Lexicographic.{pointwise}
+use Rattle.std.specs.Ordering.{nat_cmp, is_eq}
+use Rattle.std.specs.Cmp.Lexicographic.{slice_cmp}
 use Rattle.flag_relation.specs.Facts.{FactOf}
 use Rattle.cert_format.specs.Certificates.{NodeOf}
 use Rattle.cert_format.specs.Spelling.{fact_bytes}
 
 -- are the bytes equal?
 abbrev pub same : List ℕ → List ℕ → Bool
-same a b = pointwise nat_eq a b
+same a b = is_eq (slice_cmp nat_cmp a b)
 
 module _ {T : Type 0} (bytes : T → List ℕ) where
   -- facts are told apart by their bytes, which are equal for equal facts alone
   abbrev pub has_fact : List (FactOf T) → FactOf T → Bool
-  has_fact kept f = list_any (λ g. same (fact_bytes bytes g) (fact_bytes bytes f)) kept
+  has_fact kept f = list_any (λ g. same (fact_bytes bytes f) (fact_bytes bytes g)) kept
 
   -- one more fact, unless an equal one is there
   abbrev pub with_fact : List (FactOf T) → Option (FactOf T) → List (FactOf T)
@@ -28,7 +29,7 @@ module _ {T : Type 0} (bytes : T → List ℕ) where
   abbrev pub kept_facts : List (NodeOf T) → List (FactOf T)
   kept_facts nodes = kept_from [] nodes
 
-  -- no two of the facts are equal
-  abbrev pub AreDistinct : List (FactOf T) → Type 0
-  AreDistinct kept = (i j : ℕ) (f : FactOf T) → slice_get kept i ≡ Some f → slice_get kept j ≡ Some f
-      → i ≡ j
+-- no two of the facts are equal
+abbrev pub AreDistinct : {T : Type 0} → List (FactOf T) → Type 0
+AreDistinct {T} kept = (i j : ℕ) (f : FactOf T) → slice_get kept i ≡ Some f → slice_get kept j ≡ Some f
+    → i ≡ j

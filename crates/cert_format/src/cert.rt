@@ -1,10 +1,14 @@
-ghost use Rattle.std.specs.Prelude.{◌≡◌, ◌<◌, ◌≤◌, [], length, Some, IsSome, IfOk, OnOk, OnErr};
+ghost use Rattle.std.specs.Prelude.{◌≡◌, ◌<◌, ◌≤◌, ◌^◌, ◌++◌, ◌∷◌, [], length, Some, None, IsSome, OnOk, OnErr};
+ghost use Rattle.cert_format.specs.Keeping.{EntersPlace};
+ghost use Rattle.cert_format.specs.Spelling.{front};
+ghost use Rattle.cert_format.specs.declared.spelled.TheConstants.{SPELLED};
 ghost use Rattle.cert_format.specs.Certificates.{node_at, is_bare, with_node};
 ghost use Rattle.cert_format.specs.Limits.{IsKeptCert};
 ghost use Rattle.cert_format.specs.Kept.{kept_facts, AreDistinct};
 ghost use Rattle.cert_format.specs.declared.limits.TheConstants.{MOST_NODES};
 
-use crate::spelled::Spelled;
+use crate::places::{copied, enter, find, key_of};
+use crate::spelled::{SPELLED, Spelled};
 use flag_relation::{Fact, Form};
 use std::alloc::Global;
 use std::collections::BTreeMap;
@@ -43,6 +47,8 @@ impl<D: Spelled> Model for CertOf<D> {
     ghost use Rattle.std.specs.Prelude.{length};
     ghost use Rattle.cert_format.specs.Certificates.{CertificateOf};
     ghost use Rattle.cert_format.specs.Keeping.{nodes_view, IsKeeping};
+    ghost use Rattle.cert_format.specs.Spelling.{front};
+    ghost use Rattle.cert_format.specs.declared.spelled.TheConstants.{SPELLED};
 
     ghost Value = { CertificateOf D };
 
@@ -52,8 +58,79 @@ impl<D: Spelled> Model for CertOf<D> {
       nodes = nodes_view c.kept.items c.nodes.items;
     } };
 
-    ghost invariant = { λ c. IsKeeping D.bytes (length c.cells.items) c.nodes.items c.kept.items
+    ghost invariant = { λ c. IsKeeping (front SPELLED D.bytes) (length c.cells.items) c.nodes.items c.kept.items
         c.places.entries };
+}
+
+/// Appends a node. After `Memory` nothing changed.
+fn append(nodes: &mut Vec<Node>, node: Node) -> Result<(), Memory>
+    ensures ok { OnOk result (nodes.new.items ≡ nodes.old.items ++ node ∷ []) }
+    ensures err { OnErr result (nodes.new.items ≡ nodes.old.items) }
+{
+    match nodes.push(node) {
+        Ok(()) => Ok(()),
+        Err(_) => Err(Memory),
+    }
+}
+
+/// Appends a fact. After `Memory` nothing changed.
+fn append_fact<D: Spelled>(kept: &mut Vec<Fact<D>>, fact: Fact<D>) -> Result<(), Memory>
+    ensures ok { OnOk result (kept.new.items ≡ kept.old.items ++ fact ∷ []) }
+    ensures err { OnErr result (kept.new.items ≡ kept.old.items) }
+{
+    match kept.push(fact) {
+        Ok(()) => Ok(()),
+        Err(_) => Err(Memory),
+    }
+}
+
+/// Appends a node, and enters a number at the bytes of its fact. After `Memory` nothing changed.
+fn append_entered(
+    nodes: &mut Vec<Node>,
+    places: &mut BTreeMap<Vec<u8>, u32>,
+    node: Node,
+    key: Vec<u8>,
+    number: u32,
+) -> Result<(), Memory>
+    ensures nodes { OnOk result (nodes.new.items ≡ nodes.old.items ++ node ∷ []) }
+    ensures places { OnOk result
+        (EntersPlace places.old.entries places.new.entries key.items number) }
+    ensures same_nodes { OnErr result (nodes.new.items ≡ nodes.old.items) }
+    ensures same_places { OnErr result (places.new.entries ≡ places.old.entries) }
+{
+    append(nodes, node)?;
+    if enter(places, key, number).is_err() {
+        nodes.pop();
+        return Err(Memory);
+    }
+    Ok(())
+}
+
+/// Appends a node with a fact that isn't kept yet. After `Memory` nothing changed.
+fn append_new<D: Spelled>(
+    nodes: &mut Vec<Node>,
+    kept: &mut Vec<Fact<D>>,
+    places: &mut BTreeMap<Vec<u8>, u32>,
+    node: Node,
+    fact: Fact<D>,
+    key: Vec<u8>,
+) -> Result<(), Memory>
+    requires { length kept.old.items < 2 ^ 32 }
+    ensures nodes { OnOk result (nodes.new.items ≡ nodes.old.items ++ node ∷ []) }
+    ensures kept { OnOk result (kept.new.items ≡ kept.old.items ++ fact ∷ []) }
+    ensures places { OnOk result
+        (EntersPlace places.old.entries places.new.entries key.items (length kept.old.items)) }
+    ensures same_nodes { OnErr result (nodes.new.items ≡ nodes.old.items) }
+    ensures same_kept { OnErr result (kept.new.items ≡ kept.old.items) }
+    ensures same_places { OnErr result (places.new.entries ≡ places.old.entries) }
+{
+    let number = kept.len() as u32;
+    append_fact(kept, fact)?;
+    if append_entered(nodes, places, node, key, number).is_err() {
+        kept.pop();
+        return Err(Memory);
+    }
+    Ok(())
 }
 
 impl<D: Spelled> CertOf<D> {
@@ -124,5 +201,75 @@ impl<D: Spelled> CertOf<D> {
         ensures { result ≡ is_bare (node_at self.now i) }
     {
         self.nodes[i as usize].fact.is_none()
+    }
+
+    /// The fact of a node that isn't bare.
+    pub fn fact(&self, i: u32) -> &Fact<D>
+        requires within { i < length self.now.nodes }
+        requires full { IsSome (node_at self.now i).fact }
+        ensures { (node_at self.now i).fact ≡ Some result.now }
+    {
+        let number = self.nodes[i as usize].fact.unwrap_or(0);
+        &self.kept[number as usize]
+    }
+
+    /// The facts that are kept: each distinct fact of the nodes once, in the order of first use.
+    pub fn kept(&self) -> &[Fact<D>]
+        ensures facts { result.now ≡ kept_facts (front SPELLED D.bytes) self.now.nodes }
+        ensures distinct { AreDistinct result.now }
+    {
+        self.kept.as_slice()
+    }
+
+    /// Appends a node with a fact over as many cells. After `Memory` the certificate is as before.
+    pub fn push(
+        &mut self,
+        addr: Addr,
+        fact: &Fact<D>,
+        succ: Vec<u32>,
+        rank: Form,
+    ) -> Result<(), Memory>
+        requires room { length self.old.nodes < MOST_NODES }
+        requires cells { length fact.now.cells ≡ length self.old.cells }
+        ensures ok { OnOk result (self.new ≡ with_node self.old
+            (record { addr = addr; fact = Some fact.now; succ = succ.items; rank = rank })) }
+        ensures err { OnErr result (self.new ≡ self.old) }
+    {
+        addr.get();
+        let key = key_of(self.alloc, fact)?;
+        if let Some(number) = find(&self.places, key.as_slice()) {
+            let node = Node {
+                addr,
+                fact: Some(number),
+                succ,
+                rank,
+            };
+            return append(&mut self.nodes, node);
+        }
+        let node = Node {
+            addr,
+            fact: Some(self.kept.len() as u32),
+            succ,
+            rank,
+        };
+        let copy = copied(self.alloc, fact)?;
+        append_new(&mut self.nodes, &mut self.kept, &mut self.places, node, copy, key)
+    }
+
+    /// Appends a bare node. After `Memory` the certificate is as before.
+    pub fn push_bare(&mut self, addr: Addr, succ: Vec<u32>, rank: Form) -> Result<(), Memory>
+        requires { length self.old.nodes < MOST_NODES }
+        ensures ok { OnOk result (self.new ≡ with_node self.old
+            (record { addr = addr; fact = None; succ = succ.items; rank = rank })) }
+        ensures err { OnErr result (self.new ≡ self.old) }
+    {
+        addr.get();
+        let node = Node {
+            addr,
+            fact: None,
+            succ,
+            rank,
+        };
+        append(&mut self.nodes, node)
     }
 }

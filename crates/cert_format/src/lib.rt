@@ -9,6 +9,7 @@ mod cert;
 mod fault;
 mod fields;
 mod limits;
+mod places;
 mod put;
 mod read_facts;
 mod read_values;
