@@ -147,6 +147,17 @@ found_fact {T} bytes t cells nodes kept entries f i k fits e =
       same = ap (with_fact b kept) is ∙ rw (some_fact b f kept i is) refl;
     }
 
+-- what an append made, or left
+pub new_way : {T A E : Type 0} (r : Result A E) (bytes : T → List ℕ) (cells : ℕ) (nodes ns : List Node) (kept ks : List (FactOf T)) (entries es : List (Vec ℕ × ℕ)) (n : Node) (f : FactOf T) (key : List ℕ) (number : ℕ)
+    → OnOk r (ns ≡ nodes ++ n ∷ []) → OnOk r (ks ≡ kept ++ f ∷ []) → OnOk r (EntersPlace entries es key number) → OnErr r (ns ≡ nodes) → OnErr r (ks ≡ kept) → OnErr r (es ≡ entries)
+    → IsKeeping bytes cells nodes kept entries → ((more : List (Vec ℕ × ℕ)) → EntersPlace entries more key number → IsKeeping bytes cells (nodes ++ n ∷ []) (kept ++ f ∷ []) more) → IsKeeping bytes cells ns ks es
+new_way (Ok a) bytes cells nodes ns kept ks entries es n f key number h1 h2 h3 k1 k2 k3 old made = rw (h1, h2) (made es h3)
+new_way (Err e) bytes cells nodes ns kept ks entries es n f key number h1 h2 h3 k1 k2 k3 old made = rw (k1, k2, k3) old
+
+pub both_ok : {A E : Type 0} (r : Result A E) (P Q R : Type 0) → (P → Q → R) → OnOk r P → OnOk r Q → OnOk r R
+both_ok (Ok a) P Q R f h k = f h k
+both_ok (Err e) P Q R f h k = tt
+
 -- ---- what contracts see
 
 pub view_same : {T : Type 0} (kept : List (FactOf T)) (c : CertificateOf T) (cells starts : List ℕ) (nodes new : List Node) (n : Node) (f : Option (FactOf T)) → fact_of kept n.fact ≡ f → record { cells = cells; starts = starts; nodes = nodes_view kept nodes } ≡ c → new ≡ nodes ++ n ∷ []

@@ -8,3 +8,4 @@ pub mod PutLaws
 pub mod PlaceLaws
 pub mod KeepingLaws
 pub mod KeepingSteps
+pub mod RankLaws

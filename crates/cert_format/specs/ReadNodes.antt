@@ -7,6 +7,7 @@ use Rattle.flag_relation.specs.Facts.{FactOf}
 use Rattle.flag_relation.specs.Values.{Regs}
 use Rattle.cert_format.specs.declared.fault.Fault.{Fault}
 use Rattle.cert_format.specs.declared.fault.CertRule.TheVariants.{Range}
+use Rattle.cert_format.specs.declared.read_nodes.ReadNode.{ReadNode}
 use Rattle.cert_format.specs.declared.version.Version.{Version}
 use Rattle.cert_format.specs.declared.version.Version.TheVariants.{One, Two}
 use Rattle.cert_format.specs.declared.limits.TheConstants.{FULL, BARE, MOST_SUCCESSORS}
@@ -81,3 +82,10 @@ placed_at version cells count bytes = do
     },
     rank.1,
   )
+
+-- as the code holds it
+abbrev pub placed : ReadNode → Placed
+placed n = record {
+  node = record { addr = n.addr; fact = n.fact; succ = n.succ.items; rank = n.rank };
+  left = n.left;
+}

@@ -12,6 +12,8 @@ mod limits;
 mod places;
 mod put;
 mod read_facts;
+mod read_nodes;
+mod read_ranks;
 mod read_values;
 mod spelled;
 mod unread;

@@ -1,0 +1,102 @@
+-- Ranks: what is read is spelled so, and what is spelled so is read.
+use Rattle.std.proofs.Common.{◌≡◌, ℕ, zero, suc, ◌+◌, ◌-◌, ◌^◌, ◌<◌, ◌≤◌, ℤ, pos, neg_ℤ, ◌≤ℤ◌, Bool, true, false, not, ◌&&◌, cond, List, [], ◌∷◌, ◌++◌, length, Option, Some, None, Result, Ok, Err, refl, sym, ap, subst, ◌∙◌, append_assoc, arith, eqb, nat_lt, nat_le, ltb, ◌⊎◌, ⊎_elim}
+use Rattle.std.specs.Ordering.{int_eq}
+use Rattle.std.specs.Int.{w8, w64, cast_signed, cast_unsigned}
+use Rattle.std.specs.List.{flat_map}
+use Rattle.std.proofs.lemmas.Int.{ints, of_z-to_z}
+use Rattle.std.proofs.lemmas.List.{length-append}
+use Rattle.std.proofs.lemmas.Bool.{and_parts, and_from, ltb-true, lt-ltb, le-ltb, leb-true, le-leb, eqb-true, ne_eqb}
+use Rattle.std.proofs.lemmas.Bool.Decides.{Decides-int_eq}
+use Rattle.viper_word.proofs.Booleans.{chosen, test_false}
+use Rattle.viper_word.specs.declared.reg.Reg.TheVariants as reg
+use Rattle.flag_relation.specs.declared.form.TheConstants.{MOST_TERMS, MOST_COEFFICIENT, MOST_CONSTANT}
+use Rattle.flag_relation.specs.declared.var.Var.{Var}
+use Rattle.flag_relation.specs.declared.var.Var.TheVariants as var
+use Rattle.flag_relation.specs.Forms.{FormOf, var_number, is_within, is_coefficient, are_terms, is_form}
+use Rattle.cert_format.specs.declared.fault.Fault.{Fault}
+use Rattle.cert_format.specs.declared.limits.TheConstants.{MOST_RANK, MOST_FACTOR, TERM}
+use Rattle.cert_format.specs.Limits.{IsWithin, AreTerms, IsRank}
+use Rattle.cert_format.specs.Values.{long_bytes, signed_long_bytes}
+use Rattle.cert_format.specs.Spelling.{counted_bytes, term_bytes, rank_bytes}
+use Rattle.cert_format.specs.Reading.{◌>>=◌, number_at}
+use Rattle.cert_format.specs.Fields.{count_at, signed_at, var_of, is_factor, term_of, term_parts_at, term_at, terms_at, rank_at}
+use Rattle.cert_format.proofs.Numbers.{IsBytes, Takes, Takes-then, bind_ok, passed, spared, ok_is, err_not_ok, byte_takes, byte_again, long_takes, long_again}
+use Rattle.cert_format.proofs.FieldLaws.{within_is, is_within_is, signed_takes, signed_again, count_takes, count_again, IsLong, long_from}
+
+pub var_back : (n : ℕ) → var_number (var_of n) ≡ n
+unfolding var_of
+var_back zero = refl
+var_back (suc zero) = refl
+var_back (suc (suc zero)) = refl
+var_back (suc (suc (suc n))) = rw (ne_eqb (suc (suc (suc n))) 0 (λ e. omega arith), ne_eqb (suc (suc (suc n))) 1 (λ e. omega arith), ne_eqb (suc (suc (suc n))) 2 (λ e. omega arith)) (omega arith)
+
+-- a term within the limits
+pub record IsTerm (cells from : ℕ) (t : Var × ℤ) : Type 0 where
+  pub low : from ≤ var_number t.0
+  pub high : var_number t.0 < 3 + cells
+  pub some : t.1 ≡ pos 0 → ⊥
+  pub size : IsWithin MOST_FACTOR t.1
+
+factor_is : (z : ℤ) → is_factor z ≡ true → (z ≡ pos 0 → ⊥) × IsWithin MOST_FACTOR z
+factor_is z h =
+    let p = and_parts (not (int_eq z (pos 0))) (is_within MOST_FACTOR z) h in
+    (λ e. let t = (Decides-int_eq z (pos 0)).1 e in let f = test_false (int_eq z (pos 0)) p.0 in absurd (cc), within_is MOST_FACTOR z p.1)
+
+pub term_takes : (cells from : ℕ) (bytes : List ℕ) (x : (Var × ℤ) × List ℕ) → IsBytes bytes → term_at cells from bytes ≡ Ok x → Takes bytes (term_bytes x.0) x.1 × IsTerm cells from x.0
+unfolding term_at term_parts_at term_of term_bytes
+term_takes cells from bytes x fits e =
+    let w = spared (nat_lt (length bytes) TERM) _ (term_parts_at cells from bytes) x e in
+    let n = bind_ok (number_at w8 bytes) (λ n. number_at w64 n.1 >>= λ z. term_of cells from n.0 (cast_signed w64 z.0) bytes z.1) x w.1 in
+    let z = bind_ok (number_at w64 n.0.1) (λ z. term_of cells from n.0.0 (cast_signed w64 z.0) bytes z.1) x n.2 in
+    let f = cast_signed w64 z.0.0 in
+    let g0 = passed (nat_lt n.0.0 (3 + cells)) _ _ x z.2 in
+    let g1 = passed (nat_le from n.0.0) _ _ x g0.1 in
+    let g2 = passed (is_factor f) (Ok ((var_of n.0.0, f), z.0.1)) _ x g1.1 in
+    let t0 = byte_takes bytes n.0 fits n.1 in
+    let t1 = long_takes n.0.1 z.0 t0.0.rest_fits z.1 in
+    let v = var_back n.0.0 in
+    let k = factor_is f g2.0 in
+    let whole : Takes bytes (term_bytes (var_of n.0.0, f)) z.0.1 = rw (v, of_z-to_z w64 z.0.0 t1.1) (Takes-then bytes (n.0.0 ∷ []) n.0.1 (long_bytes z.0.0) z.0.1 t0.0 t1.0) in
+    let made : (Var × ℤ) × List ℕ = ((var_of n.0.0, f), z.0.1) in
+    subst (λ (y : (Var × ℤ) × List ℕ). Takes bytes (term_bytes y.0) y.1 × IsTerm cells from y.0) (ok_is made x g2.1) (whole, record { low = rw v (leb-true from n.0.0 g1.0); high = rw v (ltb-true n.0.0 (3 + cells) g0.0); some = k.0; size = k.1 })
+
+-- without a look at the bytes
+pub term_within : (cells from : ℕ) (bytes : List ℕ) (x : (Var × ℤ) × List ℕ) → term_at cells from bytes ≡ Ok x → IsTerm cells from x.0
+unfolding term_at term_parts_at term_of
+term_within cells from bytes x e =
+    let w = spared (nat_lt (length bytes) TERM) _ (term_parts_at cells from bytes) x e in
+    let n = bind_ok (number_at w8 bytes) (λ n. number_at w64 n.1 >>= λ z. term_of cells from n.0 (cast_signed w64 z.0) bytes z.1) x w.1 in
+    let z = bind_ok (number_at w64 n.0.1) (λ z. term_of cells from n.0.0 (cast_signed w64 z.0) bytes z.1) x n.2 in
+    let f = cast_signed w64 z.0.0 in
+    let g0 = passed (nat_lt n.0.0 (3 + cells)) _ _ x z.2 in
+    let g1 = passed (nat_le from n.0.0) _ _ x g0.1 in
+    let g2 = passed (is_factor f) (Ok ((var_of n.0.0, f), z.0.1)) _ x g1.1 in
+    let v = var_back n.0.0 in
+    let k = factor_is f g2.0 in
+    let made : (Var × ℤ) × List ℕ = ((var_of n.0.0, f), z.0.1) in
+    subst (λ (y : (Var × ℤ) × List ℕ). IsTerm cells from y.0) (ok_is made x g2.1) (record { low = rw v (leb-true from n.0.0 g1.0); high = rw v (ltb-true n.0.0 (3 + cells) g0.0); some = k.0; size = k.1 })
+
+coefficient_is : (z : ℤ) → (z ≡ pos 0 → ⊥) → IsWithin MOST_FACTOR z → is_coefficient z ≡ true
+coefficient_is z some h =
+    let low = h.low in let high = h.high in
+    and_from (not (int_eq z (pos 0))) (is_within MOST_COEFFICIENT z) (not_zero (int_eq z (pos 0)) refl) (is_within_is MOST_COEFFICIENT z (record { low = omega (arith, ints); high = omega (arith, ints) }))
+  where
+    not_zero : (b : Bool) → int_eq z (pos 0) ≡ b → not b ≡ true
+    not_zero true e = absurd (some ((Decides-int_eq z (pos 0)).0 e))
+    not_zero false e = refl
+
+pub terms_within : (cells from n : ℕ) (bytes : List ℕ) (x : List (Var × ℤ) × List ℕ) → terms_at cells from n bytes ≡ Ok x → (are_terms from x.0 ≡ true) × (length x.0 ≡ n)
+unfolding terms_at are_terms
+terms_within cells from zero bytes x e = subst (λ (y : List (Var × ℤ) × List ℕ). (are_terms from y.0 ≡ true) × (length y.0 ≡ 0)) (ok_is ([], bytes) x e) (refl, refl)
+terms_within cells from (suc n) bytes x e =
+    let first = bind_ok (term_at cells from bytes) (λ a. terms_at cells (var_number a.0.0 + 1) n a.1 >>= λ b. Ok (a.0 ∷ b.0, b.1)) x e in
+    let others = bind_ok (terms_at cells (var_number first.0.0.0 + 1) n first.0.1) (λ b. Ok (first.0.0 ∷ b.0, b.1)) x first.2 in
+    let t = term_within cells from bytes first.0 first.1 in
+    let ts = terms_within cells (var_number first.0.0.0 + 1) n first.0.1 others.0 others.1 in
+    subst (λ (y : List (Var × ℤ) × List ℕ). (are_terms from y.0 ≡ true) × (length y.0 ≡ suc n)) (ok_is (first.0.0 ∷ others.0.0, others.0.1) x others.2)
+    (rw (le-leb from (var_number first.0.0.0) t.low, coefficient_is first.0.0.1 t.some t.size, ts.0) refl, ap suc ts.1)
+
+pub rank_is_form : (c : ℤ) (ts : List (Var × ℤ)) (n : ℕ) → IsWithin MOST_RANK c → are_terms 0 ts ≡ true → length ts ≡ n → n ≤ MOST_TERMS → is_form c ts ≡ true
+rank_is_form c ts n h a len few =
+    let low = h.low in let high = h.high in
+    and_from (nat_le (length ts) MOST_TERMS && is_within MOST_CONSTANT c) (are_terms 0 ts) (and_from (nat_le (length ts) MOST_TERMS) (is_within MOST_CONSTANT c) (le-leb (length ts) MOST_TERMS (omega arith)) (is_within_is MOST_CONSTANT c (record { low = omega (arith, ints); high = omega (arith, ints) }))) a
