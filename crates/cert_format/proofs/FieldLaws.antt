@@ -20,7 +20,7 @@ use Rattle.cert_format.specs.Values.{word_bytes, long_bytes, signed_long_bytes}
 use Rattle.cert_format.specs.Spelling.{counted_bytes, link_bytes}
 use Rattle.cert_format.specs.Reading.{◌>>=◌, number_at, many_at}
 use Rattle.cert_format.specs.Fields.{count_at, below_at, signed_at, numbers_at, cell_at, cells_at, offset_at, link_at}
-use Rattle.cert_format.proofs.Numbers.{IsBytes, Takes, Takes-then, Reader, bind_ok, passed, spared, ok_is, err_not_ok, word_takes, word_again, long_takes, long_again, byte_takes, byte_again, many_takes, many_again}
+use Rattle.cert_format.specs.evidence.Numbers.{IsBytes, Takes, Takes-then, Reader, bind_ok, passed, spared, ok_is, err_not_ok, word_takes, word_again, long_takes, long_again, byte_takes, byte_again, many_takes, many_again}
 
 -- ---- counts and numbers below a limit
 
@@ -148,11 +148,11 @@ link_takes cells bytes x fits e =
     let t = byte_takes bytes n.0 fits n.1 in
     ⊎_elim
     (λ (p : (eqb n.0.0 NO_LINK ≡ true) × (Ok (None, n.0.1) ≡ Ok x)).
-        let b = eqb-true n.0.0 NO_LINK p.0 in
-        subst (λ (y : Option Link × List ℕ). Takes bytes (link_bytes y.0) y.1 × IfSome y.0 (IsLinkOf cells)) (ok_is (None, n.0.1) x p.1) (subst (λ (k : ℕ). Takes bytes (k ∷ []) n.0.1) b t.0, tt))
+    let b = eqb-true n.0.0 NO_LINK p.0 in
+    subst (λ (y : Option Link × List ℕ). Takes bytes (link_bytes y.0) y.1 × IfSome y.0 (IsLinkOf cells)) (ok_is (None, n.0.1) x p.1) (subst (λ (k : ℕ). Takes bytes (k ∷ []) n.0.1) b t.0, tt))
     (λ (p : (eqb n.0.0 NO_LINK ≡ false) × (cond (nat_lt n.0.0 cells) (offset_at n.0.0 n.0.1) (Err _) ≡ Ok x)).
-        let g = passed (nat_lt n.0.0 cells) (offset_at n.0.0 n.0.1) _ x p.1 in
-        offset_takes cells n.0.0 bytes n.0.1 x (ltb-true n.0.0 cells g.0) t.0 g.1)
+    let g = passed (nat_lt n.0.0 cells) (offset_at n.0.0 n.0.1) _ x p.1 in
+    offset_takes cells n.0.0 bytes n.0.1 x (ltb-true n.0.0 cells g.0) t.0 g.1)
     (chosen (eqb n.0.0 NO_LINK) (Ok (None, n.0.1)) _ (Ok x) n.2)
 
 pub link_again : (cells : ℕ) (l : Option Link) (rest : List ℕ) → cells ≤ 32 → IfSome l (IsLinkOf cells) → link_at cells (link_bytes l ++ rest) ≡ Ok (l, rest)

@@ -2,7 +2,7 @@
 use Rattle.std.proofs.Common.{◌≡◌, ℕ, zero, suc, ◌+◌, ◌<◌, ◌≤◌, ℤ, Bool, true, false, cond, List, [], ◌∷◌, Option, Some, None, Result, Ok, Err, refl, sym, ap, subst, eqb, nat_lt, nat_le, IfSome, ◌⊎◌, ⊎_elim}
 use Rattle.std.specs.Int.{w8, w32, w64, cast_signed}
 use Rattle.std.specs.List.{AllByRecursion}
-use Rattle.std.proofs.lemmas.Bool.{ltb-true}
+use Rattle.std.proofs.lemmas.Bool.{ltb-true, leb-true}
 use Rattle.viper_word.proofs.Booleans.{chosen}
 use Rattle.flag_relation.specs.declared.atom.Atom.{Atom}
 use Rattle.flag_relation.specs.declared.atom.Right.{Right}
@@ -19,12 +19,12 @@ use Rattle.cert_format.specs.declared.fault.Fault.{Fault}
 use Rattle.cert_format.specs.declared.limits.TheConstants.{NO_LINK, A_WORD, ONE, ANY}
 use Rattle.cert_format.specs.Limits.{IsWithin}
 use Rattle.cert_format.specs.Reading.{◌>>=◌, number_at, many_at}
-use Rattle.cert_format.specs.Fields.{signed_at, offset_at, link_at, kind_at, reg_at, const_at, right_at, has_atom, atom_parts_at, atom_at, atoms_at, flag_at}
+use Rattle.cert_format.specs.Fields.{count_at, signed_at, offset_at, link_at, kind_at, reg_at, const_at, right_at, has_atom, atom_parts_at, atom_at, atoms_at, flag_at}
 use Rattle.cert_format.specs.ReadNodes.{links_at}
-use Rattle.cert_format.proofs.Numbers.{bind_ok, passed, ok_is}
+use Rattle.cert_format.specs.evidence.Numbers.{bind_ok, passed, ok_is}
 use Rattle.cert_format.proofs.FieldLaws.{within_is}
 
-signed_within : (most : ℤ) (bytes : List ℕ) (x : ℤ × List ℕ) → signed_at most bytes ≡ Ok x → IsWithin most x.0
+pub signed_within : (most : ℤ) (bytes : List ℕ) (x : ℤ × List ℕ) → signed_at most bytes ≡ Ok x → IsWithin most x.0
 unfolding signed_at
 signed_within most bytes x e =
     let n = bind_ok (number_at w64 bytes) (λ n. cond (is_within most (cast_signed w64 n.0)) (Ok (cast_signed w64 n.0, n.1)) (Err _)) x e in
@@ -37,12 +37,12 @@ link_within cells bytes x e =
     let n = bind_ok (number_at w8 bytes) (λ n. cond (eqb n.0 NO_LINK) (Ok (None, n.1)) (cond (nat_lt n.0 cells) (offset_at n.0 n.1) (Err _))) x e in
     ⊎_elim
     (λ (p : (eqb n.0.0 NO_LINK ≡ true) × (Ok (None, n.0.1) ≡ Ok x)).
-        subst (λ (y : Option Link × List ℕ). IfSome y.0 (IsLinkOf cells)) (ok_is (None, n.0.1) x p.1) tt)
+    subst (λ (y : Option Link × List ℕ). IfSome y.0 (IsLinkOf cells)) (ok_is (None, n.0.1) x p.1) tt)
     (λ (p : (eqb n.0.0 NO_LINK ≡ false) × (cond (nat_lt n.0.0 cells) (offset_at n.0.0 n.0.1) (Err _) ≡ Ok x)).
-        let g = passed (nat_lt n.0.0 cells) (offset_at n.0.0 n.0.1) _ x p.1 in
-        let o = bind_ok (signed_at MOST_OFFSET n.0.1) (λ o. Ok (Some (record { cell = n.0.0; offset = o.0 }), o.1)) x g.1 in
-        let t = signed_within MOST_OFFSET n.0.1 o.0 o.1 in
-        subst (λ (y : Option Link × List ℕ). IfSome y.0 (IsLinkOf cells)) (ok_is (Some (record { cell = n.0.0; offset = o.0.0 }), o.0.1) x o.2) (record { cell = ltb-true n.0.0 cells g.0; low = t.low; high = t.high }))
+    let g = passed (nat_lt n.0.0 cells) (offset_at n.0.0 n.0.1) _ x p.1 in
+    let o = bind_ok (signed_at MOST_OFFSET n.0.1) (λ o. Ok (Some (record { cell = n.0.0; offset = o.0 }), o.1)) x g.1 in
+    let t = signed_within MOST_OFFSET n.0.1 o.0 o.1 in
+    subst (λ (y : Option Link × List ℕ). IfSome y.0 (IsLinkOf cells)) (ok_is (Some (record { cell = n.0.0; offset = o.0.0 }), o.0.1) x o.2) (record { cell = ltb-true n.0.0 cells g.0; low = t.low; high = t.high }))
     (chosen (eqb n.0.0 NO_LINK) (Ok (None, n.0.1)) _ (Ok x) n.2)
 
 pub links_within : (cells : ℕ) (bytes : List ℕ) (x : Regs (Option Link) × List ℕ) → links_at cells bytes ≡ Ok x → AreLinksOf cells x.0
@@ -60,11 +60,11 @@ right_within cells bytes x e =
     let n = bind_ok (number_at w8 bytes) (λ n. cond (eqb n.0 A_WORD) (const_at n.1) (cond (nat_lt n.0 cells) (Ok (Cell n.0, n.1)) (Err _))) x e in
     ⊎_elim
     (λ (p : (eqb n.0.0 A_WORD ≡ true) × (const_at n.0.1 ≡ Ok x)).
-        let w = bind_ok (number_at w32 n.0.1) (λ w. Ok (Const (record { 0 = w.0 }), w.1)) x p.1 in
-        subst (λ (y : Right × List ℕ). IsRightOf cells y.0) (ok_is (Const (record { 0 = w.0.0 }), w.0.1) x w.2) tt)
+    let w = bind_ok (number_at w32 n.0.1) (λ w. Ok (Const (record { 0 = w.0 }), w.1)) x p.1 in
+    subst (λ (y : Right × List ℕ). IsRightOf cells y.0) (ok_is (Const (record { 0 = w.0.0 }), w.0.1) x w.2) tt)
     (λ (p : (eqb n.0.0 A_WORD ≡ false) × (cond (nat_lt n.0.0 cells) (Ok (Cell n.0.0, n.0.1)) (Err _) ≡ Ok x)).
-        let g = passed (nat_lt n.0.0 cells) (Ok (Cell n.0.0, n.0.1)) _ x p.1 in
-        subst (λ (y : Right × List ℕ). IsRightOf cells y.0) (ok_is (Cell n.0.0, n.0.1) x g.1) (ltb-true n.0.0 cells g.0))
+    let g = passed (nat_lt n.0.0 cells) (Ok (Cell n.0.0, n.0.1)) _ x p.1 in
+    subst (λ (y : Right × List ℕ). IsRightOf cells y.0) (ok_is (Cell n.0.0, n.0.1) x g.1) (ltb-true n.0.0 cells g.0))
     (chosen (eqb n.0.0 A_WORD) (const_at n.0.1) _ (Ok x) n.2)
 
 atom_within : (cells : ℕ) (bytes : List ℕ) (x : Atom × List ℕ) → atom_at cells bytes ≡ Ok x → IsRightOf cells x.0.right
@@ -90,14 +90,21 @@ flag_within cells bytes x e =
     let n = bind_ok (number_at w8 bytes) (λ n. cond (eqb n.0 ANY) (Ok (Any, n.1)) (cond (eqb n.0 ONE) (Ok (One, n.1)) (cond (nat_le n.0 MOST_ATOMS) (atoms_at cells n.0 n.1) (Err _)))) x e in
     ⊎_elim
     (λ (p : (eqb n.0.0 ANY ≡ true) × (Ok (Any, n.0.1) ≡ Ok x)).
-        subst (λ (y : Flag × List ℕ). IsFlagOf cells y.0) (ok_is (Any, n.0.1) x p.1) tt)
+    subst (λ (y : Flag × List ℕ). IsFlagOf cells y.0) (ok_is (Any, n.0.1) x p.1) tt)
     (λ (p : (eqb n.0.0 ANY ≡ false) × (cond (eqb n.0.0 ONE) (Ok (One, n.0.1)) (cond (nat_le n.0.0 MOST_ATOMS) (atoms_at cells n.0.0 n.0.1) (Err _)) ≡ Ok x)).
-        ⊎_elim
-        (λ (q : (eqb n.0.0 ONE ≡ true) × (Ok (One, n.0.1) ≡ Ok x)).
-            subst (λ (y : Flag × List ℕ). IsFlagOf cells y.0) (ok_is (One, n.0.1) x q.1) tt)
-        (λ (q : (eqb n.0.0 ONE ≡ false) × (cond (nat_le n.0.0 MOST_ATOMS) (atoms_at cells n.0.0 n.0.1) (Err _) ≡ Ok x)).
-            let g = passed (nat_le n.0.0 MOST_ATOMS) (atoms_at cells n.0.0 n.0.1) _ x q.1 in
-            let a = bind_ok (many_at (atom_at cells) n.0.0 n.0.1) (λ a. Ok (Or a.0, a.1)) x g.1 in
-            subst (λ (y : Flag × List ℕ). IsFlagOf cells y.0) (ok_is (Or a.0.0, a.0.1) x a.2) (atoms_within cells n.0.0 n.0.1 a.0 a.1))
-        (chosen (eqb n.0.0 ONE) (Ok (One, n.0.1)) _ (Ok x) p.1))
+    ⊎_elim
+    (λ (q : (eqb n.0.0 ONE ≡ true) × (Ok (One, n.0.1) ≡ Ok x)).
+    subst (λ (y : Flag × List ℕ). IsFlagOf cells y.0) (ok_is (One, n.0.1) x q.1) tt)
+    (λ (q : (eqb n.0.0 ONE ≡ false) × (cond (nat_le n.0.0 MOST_ATOMS) (atoms_at cells n.0.0 n.0.1) (Err _) ≡ Ok x)).
+    let g = passed (nat_le n.0.0 MOST_ATOMS) (atoms_at cells n.0.0 n.0.1) _ x q.1 in
+    let a = bind_ok (many_at (atom_at cells) n.0.0 n.0.1) (λ a. Ok (Or a.0, a.1)) x g.1 in
+    subst (λ (y : Flag × List ℕ). IsFlagOf cells y.0) (ok_is (Or a.0.0, a.0.1) x a.2) (atoms_within cells n.0.0 n.0.1 a.0 a.1))
+    (chosen (eqb n.0.0 ONE) (Ok (One, n.0.1)) _ (Ok x) p.1))
     (chosen (eqb n.0.0 ANY) (Ok (Any, n.0.1)) _ (Ok x) n.2)
+
+pub count_within : (most : ℕ) (bytes : List ℕ) (x : ℕ × List ℕ) → count_at most bytes ≡ Ok x → x.0 ≤ most
+unfolding count_at
+count_within most bytes x e =
+    let n = bind_ok (number_at w8 bytes) (λ n. cond (nat_le n.0 most) (Ok n) (Err _)) x e in
+    let g = passed (nat_le n.0.0 most) (Ok n.0) _ x n.2 in
+    subst (λ (y : ℕ × List ℕ). y.0 ≤ most) (ok_is n.0 x g.1) (leb-true n.0.0 most g.0)

@@ -25,7 +25,7 @@ use Rattle.cert_format.specs.Values.{word_bytes}
 use Rattle.cert_format.specs.Spelling.{right_bytes, atom_bytes, flag_bytes}
 use Rattle.cert_format.specs.Reading.{◌>>=◌, number_at, many_at}
 use Rattle.cert_format.specs.Fields.{kind_of, reg_of, or_range, kind_at, reg_at, const_at, right_at, has_atom, atom_parts_at, atom_at, atoms_at, flag_at}
-use Rattle.cert_format.proofs.Numbers.{IsBytes, Takes, Takes-then, Reader, bind_ok, passed, ok_is, err_not_ok, word_takes, word_again, byte_takes, byte_again, many_takes, many_again}
+use Rattle.cert_format.specs.evidence.Numbers.{IsBytes, Takes, Takes-then, Reader, bind_ok, passed, ok_is, err_not_ok, word_takes, word_again, byte_takes, byte_again, many_takes, many_again}
 
 -- a value that is there
 or_range_is : {Z : Type 0} (o : Option Z) (bytes rest : List ℕ) (x : Z × List ℕ) → or_range o bytes rest ≡ Ok x → (o ≡ Some x.0) × (rest ≡ x.1)
@@ -98,13 +98,13 @@ right_takes cells bytes x fits e =
     let t = byte_takes bytes n.0 fits n.1 in
     ⊎_elim
     (λ (p : (eqb n.0.0 A_WORD ≡ true) × (const_at n.0.1 ≡ Ok x)).
-        let b = eqb-true n.0.0 A_WORD p.0 in
-        let c = const_takes bytes n.0.1 x (subst (λ (k : ℕ). Takes bytes (k ∷ []) n.0.1) b t.0) p.1 in
-        (c.0, c.1, c.2 cells))
+    let b = eqb-true n.0.0 A_WORD p.0 in
+    let c = const_takes bytes n.0.1 x (subst (λ (k : ℕ). Takes bytes (k ∷ []) n.0.1) b t.0) p.1 in
+    (c.0, c.1, c.2 cells))
     (λ (p : (eqb n.0.0 A_WORD ≡ false) × (cond (nat_lt n.0.0 cells) (Ok (Cell n.0.0, n.0.1)) (Err _) ≡ Ok x)).
-        let g = passed (nat_lt n.0.0 cells) (Ok (Cell n.0.0, n.0.1)) _ x p.1 in
-        let made : Right × List ℕ = (Cell n.0.0, n.0.1) in
-        subst (λ (y : Right × List ℕ). Takes bytes (right_bytes y.0) y.1 × IsRightWord y.0 × IsRightOf cells y.0) (ok_is made x g.1) (t.0, tt, ltb-true n.0.0 cells g.0))
+    let g = passed (nat_lt n.0.0 cells) (Ok (Cell n.0.0, n.0.1)) _ x p.1 in
+    let made : Right × List ℕ = (Cell n.0.0, n.0.1) in
+    subst (λ (y : Right × List ℕ). Takes bytes (right_bytes y.0) y.1 × IsRightWord y.0 × IsRightOf cells y.0) (ok_is made x g.1) (t.0, tt, ltb-true n.0.0 cells g.0))
     (chosen (eqb n.0.0 A_WORD) (const_at n.0.1) _ (Ok x) n.2)
 
 right_again : (cells : ℕ) (r : Right) (rest : List ℕ) → cells ≤ 32 → IsRightWord r → IsRightOf cells r → right_at cells (right_bytes r ++ rest) ≡ Ok (r, rest)
@@ -180,15 +180,15 @@ flag_takes cells bytes x small fits e =
     let t = byte_takes bytes n.0 fits n.1 in
     ⊎_elim
     (λ (p : (eqb n.0.0 ANY ≡ true) × (Ok (Any, n.0.1) ≡ Ok x)).
-        subst (λ (y : Flag × List ℕ). Takes bytes (flag_bytes y.0) y.1 × IsFlagIn cells y.0) (ok_is (Any, n.0.1) x p.1) (subst (λ (k : ℕ). Takes bytes (k ∷ []) n.0.1) (eqb-true n.0.0 ANY p.0) t.0, (tt, tt)))
+    subst (λ (y : Flag × List ℕ). Takes bytes (flag_bytes y.0) y.1 × IsFlagIn cells y.0) (ok_is (Any, n.0.1) x p.1) (subst (λ (k : ℕ). Takes bytes (k ∷ []) n.0.1) (eqb-true n.0.0 ANY p.0) t.0, (tt, tt)))
     (λ (p : (eqb n.0.0 ANY ≡ false) × (cond (eqb n.0.0 ONE) (Ok (One, n.0.1)) (cond (nat_le n.0.0 MOST_ATOMS) (atoms_at cells n.0.0 n.0.1) (Err _)) ≡ Ok x)).
-        ⊎_elim
-        (λ (q : (eqb n.0.0 ONE ≡ true) × (Ok (One, n.0.1) ≡ Ok x)).
-            subst (λ (y : Flag × List ℕ). Takes bytes (flag_bytes y.0) y.1 × IsFlagIn cells y.0) (ok_is (One, n.0.1) x q.1) (subst (λ (k : ℕ). Takes bytes (k ∷ []) n.0.1) (eqb-true n.0.0 ONE q.0) t.0, (tt, tt)))
-        (λ (q : (eqb n.0.0 ONE ≡ false) × (cond (nat_le n.0.0 MOST_ATOMS) (atoms_at cells n.0.0 n.0.1) (Err _) ≡ Ok x)).
-            let g = passed (nat_le n.0.0 MOST_ATOMS) (atoms_at cells n.0.0 n.0.1) _ x q.1 in
-            atoms_takes cells n.0.0 bytes n.0.1 x small (leb-true n.0.0 MOST_ATOMS g.0) t.0 g.1)
-        (chosen (eqb n.0.0 ONE) (Ok (One, n.0.1)) _ (Ok x) p.1))
+    ⊎_elim
+    (λ (q : (eqb n.0.0 ONE ≡ true) × (Ok (One, n.0.1) ≡ Ok x)).
+    subst (λ (y : Flag × List ℕ). Takes bytes (flag_bytes y.0) y.1 × IsFlagIn cells y.0) (ok_is (One, n.0.1) x q.1) (subst (λ (k : ℕ). Takes bytes (k ∷ []) n.0.1) (eqb-true n.0.0 ONE q.0) t.0, (tt, tt)))
+    (λ (q : (eqb n.0.0 ONE ≡ false) × (cond (nat_le n.0.0 MOST_ATOMS) (atoms_at cells n.0.0 n.0.1) (Err _) ≡ Ok x)).
+    let g = passed (nat_le n.0.0 MOST_ATOMS) (atoms_at cells n.0.0 n.0.1) _ x q.1 in
+    atoms_takes cells n.0.0 bytes n.0.1 x small (leb-true n.0.0 MOST_ATOMS g.0) t.0 g.1)
+    (chosen (eqb n.0.0 ONE) (Ok (One, n.0.1)) _ (Ok x) p.1))
     (chosen (eqb n.0.0 ANY) (Ok (Any, n.0.1)) _ (Ok x) n.2)
 
 pub flag_again : (cells : ℕ) (f : Flag) (rest : List ℕ) → cells ≤ 32 → IsFlagIn cells f → flag_at cells (flag_bytes f ++ rest) ≡ Ok (f, rest)

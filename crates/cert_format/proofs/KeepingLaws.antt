@@ -11,7 +11,7 @@ use Rattle.cert_format.specs.declared.spelled.TheConstants.{SPELLED}
 use Rattle.cert_format.specs.Limits.{IsFact}
 use Rattle.cert_format.specs.Spelling.{front, link_bytes, links_bytes, flag_bytes, fact_bytes}
 use Rattle.cert_format.specs.Fields.{link_at, flag_at}
-use Rattle.cert_format.proofs.Numbers.{ok_is}
+use Rattle.cert_format.specs.evidence.Numbers.{ok_is}
 use Rattle.cert_format.proofs.FieldLaws.{link_again}
 use Rattle.cert_format.proofs.FlagLaws.{IsFlagIn, flag_again}
 use Rattle.cert_format.specs.Certificates.{NodeOf}

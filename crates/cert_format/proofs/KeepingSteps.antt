@@ -10,7 +10,7 @@ use Rattle.cert_format.specs.declared.cert.Node.{Node}
 use Rattle.cert_format.specs.declared.limits.TheConstants.{MOST_NODES}
 use Rattle.cert_format.specs.declared.spelled.TheConstants.{SPELLED}
 use Rattle.cert_format.specs.Certificates.{NodeOf, CertificateOf, with_node}
-use Rattle.cert_format.specs.Limits.{IsFact}
+use Rattle.cert_format.specs.Limits.{IsFact, IsKeptNode, IsKeptCert}
 use Rattle.cert_format.specs.Spelling.{front, fact_bytes}
 use Rattle.cert_format.specs.Kept.{same, has_fact, with_fact, kept_from, kept_facts}
 use Rattle.cert_format.specs.Keeping.{place_from, place_of, found, ArePlaces, EntersPlace, HasNumber, HasAddress, fact_of, node_view, nodes_view, keys_of, IsKeeping}
@@ -90,7 +90,7 @@ module _ {T : Type 0} (bytes : T → List ℕ) (cells : ℕ) (nodes : List Node)
         numbers = all_push (HasNumber (length kept)) nodes n k.numbers number;
         facts = k.facts;
         once = sym (ap (kept_facts bytes) (map_push (node_view kept) nodes n) ∙ kept_push bytes [] (nodes_view kept nodes) (node_view kept n)
-          ∙ ap (λ (ks : List (FactOf T)). with_fact bytes ks (fact_of kept n.fact)) (sym k.once) ∙ same_kept);
+            ∙ ap (λ (ks : List (FactOf T)). with_fact bytes ks (fact_of kept n.fact)) (sym k.once) ∙ same_kept);
         places = k.places;
       }
 
@@ -109,12 +109,12 @@ module _ {T : Type 0} (bytes : T → List ℕ) (cells : ℕ) (nodes : List Node)
         numbers = all_push (HasNumber (length (kept ++ f ∷ []))) nodes n (numbers_grow (length kept) (length (kept ++ f ∷ [])) nodes (omega (arith, longer)) k.numbers) (subst (λ (o : Option ℕ). IfSome o (λ i. i < length (kept ++ f ∷ []))) (sym number) (omega (arith, longer)));
         facts = all_push (IsFact cells) kept f k.facts fits;
         once = sym (ap (kept_facts bytes) (map_push (node_view (kept ++ f ∷ [])) nodes n) ∙ ap (λ (ns : List (NodeOf T)). kept_facts bytes (ns ++ node_view (kept ++ f ∷ []) n ∷ [])) (view_grow kept (f ∷ []) nodes k.numbers) ∙ kept_push bytes [] (nodes_view kept nodes) (node_view (kept ++ f ∷ []) n)
-          ∙ ap (λ (ks : List (FactOf T)). with_fact bytes ks (fact_of (kept ++ f ∷ []) n.fact)) (sym k.once) ∙ ap (with_fact bytes kept) its ∙ added);
+            ∙ ap (λ (ks : List (FactOf T)). with_fact bytes ks (fact_of (kept ++ f ∷ []) n.fact)) (sym k.once) ∙ ap (with_fact bytes kept) its ∙ added);
         places = λ q.
-          enters q ∙ ap (cond (same q (fact_bytes bytes f)) (Some (length kept))) (k.places q)
-          ∙ ap (λ (m : ℕ). cond (same q (fact_bytes bytes f)) (Some m) (place_of q (keys_of bytes kept))) (sym (zero-add (length (keys_of bytes kept)) ∙ keys_length bytes kept))
-          ∙ sym (place_push 0 q (keys_of bytes kept) (fact_bytes bytes f) none)
-          ∙ ap (place_of q) (sym (map_push (fact_bytes bytes) kept f));
+            enters q ∙ ap (cond (same q (fact_bytes bytes f)) (Some (length kept))) (k.places q)
+            ∙ ap (λ (m : ℕ). cond (same q (fact_bytes bytes f)) (Some m) (place_of q (keys_of bytes kept))) (sym (zero-add (length (keys_of bytes kept)) ∙ keys_length bytes kept))
+            ∙ sym (place_push 0 q (keys_of bytes kept) (fact_bytes bytes f) none)
+            ∙ ap (place_of q) (sym (map_push (fact_bytes bytes) kept f));
       }
 
 -- a fact whose bytes were found stands at that number
@@ -172,3 +172,21 @@ pub view_new : {T : Type 0} (kept more : List (FactOf T)) (g : FactOf T) (c : Ce
 view_new {T} kept more g c cells starts nodes new n numbers number e h k =
     ap (λ (ks : List (FactOf T)). record { cells = cells; starts = starts; nodes = nodes_view ks new }) k
     ∙ view_same (kept ++ g ∷ []) c cells starts nodes new n (Some g) (ap (fact_of (kept ++ g ∷ [])) number ∙ get_last kept g) (ap (λ (ns : List (NodeOf T)). record { cells = cells; starts = starts; nodes = ns }) (view_grow kept (g ∷ []) nodes numbers) ∙ e) h
+
+-- what the type keeps of every node
+pub kept_nodes : {T : Type 0} (cells : ℕ) (kept : List (FactOf T)) (nodes : List Node) → AllByRecursion (IsFact cells) kept → AllByRecursion HasAddress nodes → AllByRecursion (IsKeptNode cells) (nodes_view kept nodes)
+kept_nodes cells kept [] facts addresses = tt
+kept_nodes {T} cells kept (n ∷ nodes) facts addresses = (record { addr = addresses.0; fact = its n.fact }, kept_nodes cells kept nodes facts addresses.1)
+  where
+    of_place : (o : Option (FactOf T)) → ((f : FactOf T) → o ≡ Some f → IsFact cells f) → IfSome o (IsFact cells)
+    of_place None h = tt
+    of_place (Some f) h = h f refl
+
+    its : (o : Option ℕ) → IfSome (fact_of kept o) (IsFact cells)
+    its None = tt
+    its (Some i) = of_place (slice_get kept i) (λ f e. all_get (IsFact cells) kept i f facts e)
+
+pub kept_cert : {T : Type 0} (bytes : T → List ℕ) (cells starts : List ℕ) (nodes : List Node) (kept : List (FactOf T)) (entries : List (Vec ℕ × ℕ)) (c : CertificateOf T) → IsKeeping bytes (length cells) nodes kept entries → record { cells = cells; starts = starts; nodes = nodes_view kept nodes } ≡ c → IsKeptCert c
+kept_cert {T} bytes cells starts nodes kept entries c k e =
+    let few = k.few in
+    subst (λ (d : CertificateOf T). IsKeptCert d) e (record { few_nodes = omega (arith, nodes_length kept nodes); nodes = kept_nodes (length cells) kept nodes k.facts k.addresses })

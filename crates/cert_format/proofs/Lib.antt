@@ -1,11 +1,10 @@
 pub mod Loops
-pub mod Numbers
 pub mod FieldLaws
 pub mod FieldLimits
 pub mod FlagLaws
-pub mod ValueLaws
 pub mod PutLaws
 pub mod PlaceLaws
 pub mod KeepingLaws
 pub mod KeepingSteps
 pub mod RankLaws
+pub mod NodeLoops

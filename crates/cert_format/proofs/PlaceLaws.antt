@@ -61,8 +61,8 @@ place_push n q (c ∷ ks) k h =
     let p = not_here (same k c) (Some n) (place_from (suc n) k ks) h in
     ap (cond (same q c) (Some n)) (place_push (suc n) q ks k p.1 ∙ ap (λ (m : ℕ). cond (same q k) (Some m) (place_from (suc n) q ks)) (omega arith))
     ∙ swap_tests (same q c) (same q k) (Some n) (Some (n + suc (length ks))) (place_from (suc n) q ks) (λ a b.
-        let x = same_is q c a in let y = same_is q k b in
-        let z : same k c ≡ true = subst (λ (t : List ℕ). same t c ≡ true) y a in absurd (cc))
+    let x = same_is q c a in let y = same_is q k b in
+    let z : same k c ≡ true = subst (λ (t : List ℕ). same t c ≡ true) y a in absurd (cc))
   where
     not_here : (b : Bool) (o p : Option ℕ) → cond b (Some n) p ≡ None → (b ≡ false) × (p ≡ None)
     not_here true o p h = absurd (cc)

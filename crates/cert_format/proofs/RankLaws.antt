@@ -9,7 +9,7 @@ use Rattle.std.proofs.lemmas.Bool.{and_parts, and_from, ltb-true, lt-ltb, le-ltb
 use Rattle.std.proofs.lemmas.Bool.Decides.{Decides-int_eq}
 use Rattle.viper_word.proofs.Booleans.{chosen, test_false}
 use Rattle.viper_word.specs.declared.reg.Reg.TheVariants as reg
-use Rattle.flag_relation.specs.declared.form.TheConstants.{MOST_TERMS, MOST_COEFFICIENT, MOST_CONSTANT}
+use Rattle.flag_relation.specs.declared.form.TheConstants.{MOST_TERMS}
 use Rattle.flag_relation.specs.declared.var.Var.{Var}
 use Rattle.flag_relation.specs.declared.var.Var.TheVariants as var
 use Rattle.flag_relation.specs.Forms.{FormOf, var_number, is_within, is_coefficient, are_terms, is_form}
@@ -20,7 +20,7 @@ use Rattle.cert_format.specs.Values.{long_bytes, signed_long_bytes}
 use Rattle.cert_format.specs.Spelling.{counted_bytes, term_bytes, rank_bytes}
 use Rattle.cert_format.specs.Reading.{◌>>=◌, number_at}
 use Rattle.cert_format.specs.Fields.{count_at, signed_at, var_of, is_factor, term_of, term_parts_at, term_at, terms_at, rank_at}
-use Rattle.cert_format.proofs.Numbers.{IsBytes, Takes, Takes-then, bind_ok, passed, spared, ok_is, err_not_ok, byte_takes, byte_again, long_takes, long_again}
+use Rattle.cert_format.specs.evidence.Numbers.{IsBytes, Takes, Takes-then, bind_ok, passed, spared, ok_is, err_not_ok, byte_takes, byte_again, long_takes, long_again}
 use Rattle.cert_format.proofs.FieldLaws.{within_is, is_within_is, signed_takes, signed_again, count_takes, count_again, IsLong, long_from}
 
 pub var_back : (n : ℕ) → var_number (var_of n) ≡ n
@@ -79,7 +79,7 @@ term_within cells from bytes x e =
 coefficient_is : (z : ℤ) → (z ≡ pos 0 → ⊥) → IsWithin MOST_FACTOR z → is_coefficient z ≡ true
 coefficient_is z some h =
     let low = h.low in let high = h.high in
-    and_from (not (int_eq z (pos 0))) (is_within MOST_COEFFICIENT z) (not_zero (int_eq z (pos 0)) refl) (is_within_is MOST_COEFFICIENT z (record { low = omega (arith, ints); high = omega (arith, ints) }))
+    and_from (not (int_eq z (pos 0))) (is_within (pos (2 ^ 43)) z) (not_zero (int_eq z (pos 0)) refl) (is_within_is (pos (2 ^ 43)) z (record { low = omega (arith, ints); high = omega (arith, ints) }))
   where
     not_zero : (b : Bool) → int_eq z (pos 0) ≡ b → not b ≡ true
     not_zero true e = absurd (some ((Decides-int_eq z (pos 0)).0 e))
@@ -99,4 +99,4 @@ terms_within cells from (suc n) bytes x e =
 pub rank_is_form : (c : ℤ) (ts : List (Var × ℤ)) (n : ℕ) → IsWithin MOST_RANK c → are_terms 0 ts ≡ true → length ts ≡ n → n ≤ MOST_TERMS → is_form c ts ≡ true
 rank_is_form c ts n h a len few =
     let low = h.low in let high = h.high in
-    and_from (nat_le (length ts) MOST_TERMS && is_within MOST_CONSTANT c) (are_terms 0 ts) (and_from (nat_le (length ts) MOST_TERMS) (is_within MOST_CONSTANT c) (le-leb (length ts) MOST_TERMS (omega arith)) (is_within_is MOST_CONSTANT c (record { low = omega (arith, ints); high = omega (arith, ints) }))) a
+    and_from (nat_le (length ts) MOST_TERMS && is_within (pos (2 ^ 77)) c) (are_terms 0 ts) (and_from (nat_le (length ts) MOST_TERMS) (is_within (pos (2 ^ 77)) c) (le-leb (length ts) MOST_TERMS (omega arith)) (is_within_is (pos (2 ^ 77)) c (record { low = omega (arith, ints); high = omega (arith, ints) }))) a

@@ -1,10 +1,12 @@
 -- Reading a certificate whole: its value, or the first rule that is broken with its place.
-use Rattle.std.specs.Prelude.{◌≡◌, ℕ, zero, suc, ◌-◌, List, [], ◌∷◌, length, map, Option, Some, None, Result, Ok, Err, ◌==◌, nat_lt, if◌then◌else◌}
+use Rattle.std.specs.Prelude.{◌≡◌, ℕ, zero, suc, ◌-◌, List, [], ◌∷◌, ◌++◌, length, map, Option, Some, None, Result, Ok, Err, ◌==◌, nat_lt, if◌then◌else◌}
 use Rattle.std.proofs.Common.{get_or}
 use Rattle.std.specs.Int.{w8, w32}
 use Rattle.val_dom.specs.declared.val.Val.{Val}
 use Rattle.flag_relation.specs.declared.fact.TheConstants.{MOST_CELLS}
 use Rattle.cert_format.specs.declared.fault.Fault.{Fault}
+use Rattle.cert_format.specs.declared.fault.ReadError.{ReadError}
+use Rattle.cert_format.specs.declared.reading.ReadHeading.{ReadHeading}
 use Rattle.cert_format.specs.declared.fault.CertFault.{CertFault}
 use Rattle.cert_format.specs.declared.fault.CertFault.TheVariants as faults
 use Rattle.cert_format.specs.declared.fault.CertRule.{CertRule}
@@ -14,7 +16,7 @@ use Rattle.cert_format.specs.declared.version.Version.TheVariants.{One, Two}
 use Rattle.cert_format.specs.declared.limits.TheConstants.{MAGIC, MOST_NODES, MOST_STARTS}
 use Rattle.cert_format.specs.Certificates.{NodeOf, CertificateOf}
 use Rattle.cert_format.specs.Bare.{first_bare}
-use Rattle.cert_format.specs.Reading.{fault, ◌>>=◌, number_at, many_at}
+use Rattle.cert_format.specs.Reading.{Fails, fault, ◌>>=◌, number_at, many_at}
 use Rattle.cert_format.specs.Fields.{below_at, numbers_at, cells_at, count_at}
 use Rattle.cert_format.specs.ReadNodes.{Placed, placed_at}
 
@@ -55,12 +57,21 @@ heading_at bytes = do
 abbrev pub nodes_of : List Placed → List (NodeOf Val)
 nodes_of placed = map (λ p. p.node) placed
 
+abbrev pub lefts_of : List Placed → List ℕ
+lefts_of placed = map (λ p. p.left) placed
+
+-- a certificate with the nodes that are read, and the places of their tags
+abbrev pub gathered : CertificateOf Val → List ℕ → Result (List Placed × List ℕ) Fault
+    → Result ((CertificateOf Val × List ℕ) × List ℕ) Fault
+gathered c lefts read = read >>= λ r.
+    Ok ((record c { nodes = c.nodes ++ nodes_of r.0 }, lefts ++ lefts_of r.0), r.1)
+
 abbrev pub certificate_of : Heading → List Placed → CertificateOf Val
 certificate_of h placed = record { cells = h.cells; starts = h.starts; nodes = nodes_of placed }
 
 -- how many bytes were left at the tag of that node
 abbrev pub left_at : List Placed → ℕ → ℕ
-left_at placed i = get_or (map (λ p. p.left) placed) i 0
+left_at placed i = get_or (lefts_of placed) i 0
 
 -- the rule Bare at the tag of the node, if there is one
 abbrev pub unless_bare : Option ℕ → List Placed → CertificateOf Val → Result (CertificateOf Val) Fault
@@ -92,3 +103,17 @@ fault_of bytes (Err e) = Some (at_offset bytes e)
 -- the first rule that the bytes break, and where
 unfoldable pub first_fault : List ℕ → Option CertFault
 first_fault bytes = fault_of bytes (cert_of bytes)
+
+-- as the code holds it
+abbrev pub heading : ReadHeading → Heading
+heading h = record {
+  version = h.version;
+  cells = h.cells.items;
+  count = h.count;
+  starts = h.starts.items;
+}
+
+-- what a function left unread is what reading leaves, unless memory ran out
+abbrev pub MovesOn : Result (Unit {0}) ReadError → List ℕ → Result (List ℕ) Fault → Type 0
+MovesOn (Ok x) rest read = read ≡ Ok rest
+MovesOn (Err e) rest read = Fails e read

@@ -1,5 +1,5 @@
 -- The facts and the nodes of a certificate.
-use Rattle.std.specs.Prelude.{◌≡◌, ℕ, ◌^◌, List, [], ◌∷◌, length, Option, Some, None, Result, Ok, Err, ◌==◌, if◌then◌else◌}
+use Rattle.std.specs.Prelude.{◌≡◌, ℕ, ◌^◌, List, [], ◌∷◌, length, Option, Some, None, IfSome, Result, Ok, Err, ◌==◌, if◌then◌else◌}
 use Rattle.std.specs.Int.{w8}
 use Rattle.val_dom.specs.declared.val.Val.{Val}
 use Rattle.flag_relation.specs.declared.link.Link.{Link}
@@ -89,3 +89,7 @@ placed n = record {
   node = record { addr = n.addr; fact = n.fact; succ = n.succ.items; rank = n.rank };
   left = n.left;
 }
+
+-- the fact, if there is one, has so many cells
+abbrev pub IsOver : ℕ → Option (FactOf Val) → Type 0
+IsOver cells f = IfSome f (λ g. length g.cells ≡ cells)

@@ -4,7 +4,7 @@ ghost use Rattle.cert_format.specs.Spelling.{front};
 ghost use Rattle.cert_format.specs.declared.spelled.TheConstants.{SPELLED};
 ghost use Rattle.cert_format.specs.Certificates.{node_at, is_bare, with_node};
 ghost use Rattle.cert_format.specs.Limits.{IsKeptCert};
-ghost use Rattle.cert_format.specs.Kept.{kept_facts, AreDistinct};
+ghost use Rattle.cert_format.specs.Kept.{kept_facts};
 ghost use Rattle.cert_format.specs.declared.limits.TheConstants.{MOST_NODES};
 
 use crate::places::{copied, enter, find, key_of};
@@ -215,8 +215,7 @@ impl<D: Spelled> CertOf<D> {
 
     /// The facts that are kept: each distinct fact of the nodes once, in the order of first use.
     pub fn kept(&self) -> &[Fact<D>]
-        ensures facts { result.now ≡ kept_facts (front SPELLED D.bytes) self.now.nodes }
-        ensures distinct { AreDistinct result.now }
+        ensures { result.now ≡ kept_facts (front SPELLED D.bytes) self.now.nodes }
     {
         self.kept.as_slice()
     }
@@ -253,7 +252,14 @@ impl<D: Spelled> CertOf<D> {
             rank,
         };
         let copy = copied(self.alloc, fact)?;
-        append_new(&mut self.nodes, &mut self.kept, &mut self.places, node, copy, key)
+        append_new(
+            &mut self.nodes,
+            &mut self.kept,
+            &mut self.places,
+            node,
+            copy,
+            key,
+        )
     }
 
     /// Appends a bare node. After `Memory` the certificate is as before.

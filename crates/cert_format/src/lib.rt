@@ -15,7 +15,9 @@ mod read_facts;
 mod read_nodes;
 mod read_ranks;
 mod read_values;
+mod reading;
 mod spelled;
+mod spelled_val;
 mod unread;
 mod version;
 

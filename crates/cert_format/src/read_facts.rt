@@ -167,12 +167,7 @@ fn many_atoms(
 
 /// A flag of so many comparisons.
 #[tactic(auto, unfolding(crate::specs::Fields::atoms_at))]
-fn atoms_at(
-    alloc: Global,
-    cells: u8,
-    count: u8,
-    input: &mut Unread<'_>,
-) -> Result<Flag, ReadError>
+fn atoms_at(alloc: Global, cells: u8, count: u8, input: &mut Unread<'_>) -> Result<Flag, ReadError>
     requires { count ≤ MOST_ATOMS }
     ensures { Reads (λ x. x) result input.new (atoms_at cells count input.old) }
 {
@@ -214,11 +209,7 @@ fn links_at(cells: u8, input: &mut Unread<'_>) -> Result<[Option<Link>; 3], Read
 }
 
 /// So many values.
-fn many_values(
-    alloc: Global,
-    count: u8,
-    input: &mut Unread<'_>,
-) -> Result<Vec<Val>, ReadError>
+fn many_values(alloc: Global, count: u8, input: &mut Unread<'_>) -> Result<Vec<Val>, ReadError>
     ensures { Reads (λ x. x.items) result input.new (many_at value_at count input.old) }
 {
     let mut found = Vec::new(alloc);
@@ -236,7 +227,8 @@ pub(crate) fn fact_at(
     input: &mut Unread<'_>,
 ) -> Result<Fact<Val>, ReadError>
     requires { cells ≤ MOST_CELLS }
-    ensures { Reads (λ x. x) result input.new (fact_at cells input.old) }
+    ensures value { Reads (λ x. x) result input.new (fact_at cells input.old) }
+    ensures cells { IfOk result (λ f. length f.cells ≡ cells) }
 {
     let a = value_at(input)?;
     let x = value_at(input)?;

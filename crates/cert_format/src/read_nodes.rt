@@ -1,8 +1,9 @@
 //! Reading nodes.
-ghost use Rattle.std.specs.Prelude.{◌≡◌, ◌≤◌, length, Some, None};
+ghost use Rattle.std.specs.Prelude.{◌≡◌, ◌≤◌, IfOk};
 ghost use Rattle.flag_relation.specs.declared.fact.TheConstants.{MOST_CELLS};
 ghost use Rattle.cert_format.specs.Reading.{Reads};
 ghost use Rattle.cert_format.specs.ReadNodes.{full_at, tagged_at, known_at, placed_at, placed};
+ghost use Rattle.cert_format.specs.ReadNodes.{IsOver};
 
 use crate::fault::{CertRule, ReadError};
 use crate::fields::{addr_at, numbers_at};
@@ -28,13 +29,10 @@ pub(crate) struct ReadNode {
 
 /// The fact of a full node.
 #[tactic(auto, unfolding(crate::specs::ReadNodes::full_at))]
-fn full_at(
-    alloc: Global,
-    cells: u8,
-    input: &mut Unread<'_>,
-) -> Result<Option<Fact<Val>>, ReadError>
+fn full_at(alloc: Global, cells: u8, input: &mut Unread<'_>) -> Result<Option<Fact<Val>>, ReadError>
     requires { cells ≤ MOST_CELLS }
-    ensures { Reads (λ x. x) result input.new (full_at cells input.old) }
+    ensures value { Reads (λ x. x) result input.new (full_at cells input.old) }
+    ensures cells { IfOk result (λ f. IsOver cells f) }
 {
     let fact = fact_at(alloc, cells, input)?;
     Ok(Some(fact))
@@ -48,7 +46,8 @@ fn tagged_at(
     input: &mut Unread<'_>,
 ) -> Result<Option<Fact<Val>>, ReadError>
     requires { cells ≤ MOST_CELLS }
-    ensures { Reads (λ x. x) result input.new (tagged_at cells input.old) }
+    ensures value { Reads (λ x. x) result input.new (tagged_at cells input.old) }
+    ensures cells { IfOk result (λ f. IsOver cells f) }
 {
     let left = input.left();
     let tag = input.u8()?;
@@ -70,7 +69,8 @@ fn known_at(
     input: &mut Unread<'_>,
 ) -> Result<Option<Fact<Val>>, ReadError>
     requires { cells ≤ MOST_CELLS }
-    ensures { Reads (λ x. x) result input.new (known_at version cells input.old) }
+    ensures value { Reads (λ x. x) result input.new (known_at version cells input.old) }
+    ensures cells { IfOk result (λ f. IsOver cells f) }
 {
     match version {
         Version::One => full_at(alloc, cells, input),
@@ -88,7 +88,8 @@ pub(crate) fn node_at(
     input: &mut Unread<'_>,
 ) -> Result<ReadNode, ReadError>
     requires { cells ≤ MOST_CELLS }
-    ensures { Reads placed result input.new (placed_at version cells count input.old) }
+    ensures value { Reads placed result input.new (placed_at version cells count input.old) }
+    ensures cells { IfOk result (λ n. IsOver cells n.fact) }
 {
     let addr = addr_at(input)?;
     let left = input.left();

@@ -39,11 +39,7 @@ fn is_factor(number: i64) -> bool
 /// A variable from that number on, with its coefficient: one field of nine bytes. Gives the number
 /// beside the term.
 #[tactic(auto, unfolding(crate::specs::Fields::term_at, crate::specs::Fields::term_parts_at, crate::specs::Fields::term_of))]
-fn term_at(
-    cells: u8,
-    from: u16,
-    input: &mut Unread<'_>,
-) -> Result<(Var, i128), ReadError>
+fn term_at(cells: u8, from: u16, input: &mut Unread<'_>) -> Result<(Var, i128), ReadError>
     requires { cells ≤ MOST_CELLS }
     ensures { Reads (λ x. x) result input.new (term_at cells from input.old) }
 {
@@ -100,11 +96,7 @@ fn terms_at(
 
 /// A rank over so many cells.
 #[tactic(auto, unfolding(crate::specs::Fields::rank_at))]
-pub(crate) fn rank_at(
-    alloc: Global,
-    cells: u8,
-    input: &mut Unread<'_>,
-) -> Result<Form, ReadError>
+pub(crate) fn rank_at(alloc: Global, cells: u8, input: &mut Unread<'_>) -> Result<Form, ReadError>
     requires { cells ≤ MOST_CELLS }
     ensures { Reads (λ x. x) result input.new (rank_at cells input.old) }
 {

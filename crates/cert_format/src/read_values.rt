@@ -38,8 +38,7 @@ fn is_several(lo: i64, hi: i64, modulus: u32, residue: u32) -> bool
     requires high { IsSigned hi }
     ensures { result ≡ is_several lo hi modulus residue }
 {
-    lo < hi
-        && (residue < modulus && (is_on(lo, modulus, residue) && is_on(hi, modulus, residue)))
+    lo < hi && (residue < modulus && (is_on(lo, modulus, residue) && is_on(hi, modulus, residue)))
 }
 
 /// Are the four numbers a value in normal form?

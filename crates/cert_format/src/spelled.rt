@@ -1,7 +1,6 @@
 ghost use Rattle.std.specs.Prelude.{◌≡◌, ℕ, List, length};
 
 use num_domain::NumDomain;
-use val_dom::Val;
 
 /// How many bytes a value is spelled in.
 pub const SPELLED: usize = 24;

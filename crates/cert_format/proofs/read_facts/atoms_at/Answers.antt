@@ -4,7 +4,7 @@ use Rattle.flag_relation.specs.declared.atom.Atom.{Atom}
 use Rattle.flag_relation.specs.AtomLists.{list_of}
 use Rattle.flag_relation.specs.declared.atoms.TheConstants.{MOST_ATOMS}
 use Rattle.cert_format.specs.Fields.{atom_at}
-use Rattle.cert_format.proofs.Numbers.{many_length}
+use Rattle.cert_format.specs.evidence.Numbers.{many_length}
 use Rattle.cert_format.proofs.read_facts.atoms_at.Goals as goal
 
 few_are_a_list : (atoms : List Atom) → nat_le (length atoms) MOST_ATOMS ≡ true → list_of atoms ≡ Some atoms

@@ -1,7 +1,7 @@
 use Rattle.std.proofs.Common.{◌≡◌, ◌∙◌, true, false, refl, sym, subst, ap, arith, ℤ, ℕ, pos, to_z, of_z, w64, Bool}
 use Rattle.std.proofs.lemmas.Int.{ints}
 use Rattle.cert_format.specs.evidence.ValueForms.{IsValue, is_value, residue_of}
-use Rattle.cert_format.proofs.ValueLaws.{value_of_is, value_of_none, value_at_is}
+use Rattle.cert_format.specs.evidence.ValueLaws.{value_of_is, value_of_none, value_at_is}
 use Rattle.cert_format.proofs.read_values.value_of.Goals as goal
 
 -- a test of numbers that went through a register
@@ -38,11 +38,13 @@ invariant_of-result c =
     let m : to_z w64 (of_z w64 c.from.result) ≡ c.from.result = omega (arith, ints) in
     let r : to_z w64 (of_z w64 c.residue_of.result) ≡ c.residue_of.result = omega (arith, ints) in
     let n = (value_at_is c.args.lo c.args.hi c.args.modulus c.args.residue _ _ _ _ t z y (m ∙ c.from.ensures) (r ∙ c.residue_of.ensures)).normal in
-    record { normal = record {
-      low_member = record { holds = n.low_member.holds };
-      high_member = record { holds = n.high_member.holds };
-      single = n.single;
-    } }
+    record {
+      normal = record {
+        low_member = record { holds = n.low_member.holds };
+        high_member = record { holds = n.high_member.holds };
+        single = n.single;
+      };
+    }
 
 pub returns : goal.returns
 returns c =

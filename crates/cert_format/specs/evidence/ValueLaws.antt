@@ -27,7 +27,7 @@ use Rattle.cert_format.specs.Values.{word_bytes, signed_bytes, value_bytes}
 use Rattle.cert_format.specs.Reading.{◌>>=◌, number_at}
 use Rattle.cert_format.specs.ReadValues.{value_if, value_of, or_value, parts_at, value_at}
 use Rattle.cert_format.specs.evidence.ValueForms.{IsValue, made, is_single, is_several, is_value, residue_of, value_is}
-use Rattle.cert_format.proofs.Numbers.{IsBytes, Takes, Takes-then, Reader, bind_ok, spared, ok_is, err_not_ok, word_takes, word_again}
+use Rattle.cert_format.specs.evidence.Numbers.{IsBytes, Takes, Takes-then, Reader, bind_ok, spared, ok_is, err_not_ok, word_takes, word_again}
 
 -- the numbers of a value
 pub record HasParts (v : Val) (l h m r : ℤ) : Type 0 where
@@ -180,7 +180,7 @@ several_words v l =
     let d0 : Divides m (v.pair.left.lo -ℤ pos r) = subst (λ (z : ℤ). Divides m (v.pair.left.lo -ℤ z)) r_is low.1 in
     let d1 : Divides m (v.pair.left.hi -ℤ pos r) = subst (λ (z : ℤ). Divides m (v.pair.left.hi -ℤ z)) r_is high.1 in
     let several : is_several v.pair.left.lo v.pair.left.hi m r ≡ true = and_from (int_lt v.pair.left.lo v.pair.left.hi) _ (true_lt v.pair.left.lo v.pair.left.hi l)
-        (and_from (nat_lt r m) _ (lt-ltb r m less) (and_from (divides m (nat_abs (v.pair.left.lo -ℤ pos r))) (divides m (nat_abs (v.pair.left.hi -ℤ pos r))) (true_divides m (nat_abs (v.pair.left.lo -ℤ pos r)) d0.holds) (true_divides m (nat_abs (v.pair.left.hi -ℤ pos r)) d1.holds))) in
+    (and_from (nat_lt r m) _ (lt-ltb r m less) (and_from (divides m (nat_abs (v.pair.left.lo -ℤ pos r))) (divides m (nat_abs (v.pair.left.hi -ℤ pos r))) (true_divides m (nat_abs (v.pair.left.lo -ℤ pos r)) d0.holds) (true_divides m (nat_abs (v.pair.left.hi -ℤ pos r)) d1.holds))) in
     record {
       modulus = m_is;
       residue = r_is ∙ sym (above_zero m r (omega arith));
@@ -194,10 +194,10 @@ several_words v l =
     not_single : (v : Val) → v.pair.left.lo <ℤ v.pair.left.hi → pos 0 ≤ℤ v.pair.right.modulus → pos 0 <ℤ v.pair.right.modulus
     not_single v l n =
         ⊎_elim (λ (e : v.pair.right.modulus ≡ pos 0).
-            let z : mod_of v.pair.right ≡ 0 = omega (arith, ints) in
-            let low = only_member (mod_of v.pair.right) v.pair.left.lo v.pair.right.residue (has_parts v.pair.right v.pair.left.lo v.normal.low_member).1 z in
-            let high = only_member (mod_of v.pair.right) v.pair.left.hi v.pair.right.residue (has_parts v.pair.right v.pair.left.hi v.normal.high_member).1 z in
-            absurd (omega (arith, ints)))
+        let z : mod_of v.pair.right ≡ 0 = omega (arith, ints) in
+        let low = only_member (mod_of v.pair.right) v.pair.left.lo v.pair.right.residue (has_parts v.pair.right v.pair.left.lo v.normal.low_member).1 z in
+        let high = only_member (mod_of v.pair.right) v.pair.left.hi v.pair.right.residue (has_parts v.pair.right v.pair.left.hi v.normal.high_member).1 z in
+        absurd (omega (arith, ints)))
         (λ (p : pos 0 <ℤ v.pair.right.modulus). p) (zero_or v.pair.right.modulus n)
 
 sixteen : (a b m r : ℕ) (rest : List ℕ) → ltb (length (word_bytes a ++ (word_bytes b ++ (word_bytes m ++ (word_bytes r ++ rest))))) VALUE ≡ false
@@ -213,9 +213,9 @@ words_again v m r rest w =
     let a = cast_unsigned w32 v.pair.left.lo in
     let b = cast_unsigned w32 v.pair.left.hi in
     let found : value_of (signed_value a) (signed_value b) m r ≡ Some v =
-        if_is (signed_value a) (signed_value b) (pos m) (residue_of m r) (is_value (signed_value a) (signed_value b) m r) (value_is (signed_value a) (signed_value b) m r) v
-        (rw (lo.back, hi.back) w.normal)
-        (record { lo = sym lo.back; hi = sym hi.back; modulus = w.modulus; residue = w.residue }) in
+    if_is (signed_value a) (signed_value b) (pos m) (residue_of m r) (is_value (signed_value a) (signed_value b) m r) (value_is (signed_value a) (signed_value b) m r) v
+    (rw (lo.back, hi.back) w.normal)
+    (record { lo = sym lo.back; hi = sym hi.back; modulus = w.modulus; residue = w.residue }) in
     let regrouped : value_bytes v ++ rest ≡ word_bytes a ++ (word_bytes b ++ (word_bytes m ++ (word_bytes r ++ rest))) = rw (w.same_modulus, w.same_residue) (regroup (word_bytes a) (word_bytes b) (word_bytes m) (word_bytes r) rest) in
     let tail = word_bytes b ++ (word_bytes m ++ (word_bytes r ++ rest)) in
     let long : ltb (length (word_bytes a ++ tail)) VALUE ≡ false = sixteen a b m r rest in
