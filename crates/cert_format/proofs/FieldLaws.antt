@@ -56,7 +56,7 @@ unfolding numbers_at counted_bytes
 numbers_takes most limit bytes x small fits e =
     let n = bind_ok (count_at most bytes) (λ n. many_at (below_at limit) n.0 n.1) x e in
     let t = count_takes most bytes n.0 fits n.1 in
-    let ts = many_takes (below_at limit) word_bytes (IsBelow limit) (below_reader limit small) n.0.0 n.0.1 x t.0.rest_fits n.2 in
+    let ts = many_takes (below_at limit) word_bytes (IsBelow limit) (below_reader limit small).takes n.0.0 n.0.1 x t.0.rest_fits n.2 in
     let both = Takes-then bytes (n.0.0 ∷ []) n.0.1 (flat_map word_bytes x.0) x.1 t.0 ts.0 in
     (subst (λ (k : ℕ). Takes bytes (k ∷ flat_map word_bytes x.0) x.1) (sym ts.1) both, subst (λ (k : ℕ). k ≤ most) (sym ts.1) t.1, ts.2)
 

@@ -167,7 +167,7 @@ atoms_takes : (cells n : ℕ) (front bytes : List ℕ) (x : Flag × List ℕ) �
 unfolding atoms_at flag_bytes
 atoms_takes cells n front bytes x small few before e =
     let a = bind_ok (many_at (atom_at cells) n bytes) (λ a. Ok (Or a.0, a.1)) x e in
-    let t = many_takes (atom_at cells) atom_bytes (IsAtom cells) (atom_reader cells small) n bytes a.0 before.rest_fits a.1 in
+    let t = many_takes (atom_at cells) atom_bytes (IsAtom cells) (atom_reader cells small).takes n bytes a.0 before.rest_fits a.1 in
     let whole = Takes-then front (n ∷ []) bytes (flat_map atom_bytes a.0.0) a.0.1 before t.0 in
     let p = atoms_parts cells a.0.0 t.2 in
     let made : Flag × List ℕ = (Or a.0.0, a.0.1) in

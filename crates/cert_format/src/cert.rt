@@ -1,4 +1,5 @@
-ghost use Rattle.std.specs.Prelude.{◌≡◌, ◌<◌, ◌≤◌, ◌^◌, ◌++◌, ◌∷◌, [], length, Some, None, IsSome, OnOk, OnErr};
+ghost use Rattle.std.specs.Prelude.{◌≡◌, ◌<◌, ◌≤◌, ◌^◌, ◌++◌, ◌∷◌, []};
+ghost use Rattle.std.specs.Prelude.{length, Some, None, IsSome, OnOk, OnErr};
 ghost use Rattle.cert_format.specs.Keeping.{EntersPlace};
 ghost use Rattle.cert_format.specs.Spelling.{front};
 ghost use Rattle.cert_format.specs.declared.spelled.TheConstants.{SPELLED};
@@ -162,7 +163,8 @@ impl<D: Spelled> CertOf<D> {
         self.starts.as_slice()
     }
 
-    /// How many nodes there are, at most 65,536. Its clause `limits` is what every certificate keeps.
+    /// How many nodes there are, at most 65,536. Its clause `limits` is what every certificate
+    /// keeps.
     pub fn len(&self) -> u32
         ensures count { result ≡ length self.now.nodes }
         ensures few { result ≤ MOST_NODES }

@@ -26,3 +26,6 @@ pub use fault::{CertFault, CertRule};
 pub use limits::{MOST_FACTOR, MOST_NODES, MOST_RANK, MOST_SUCCESSORS};
 pub use spelled::{SPELLED, Spelled};
 pub use version::Version;
+
+#[cfg(test)]
+mod tests;

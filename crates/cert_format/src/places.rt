@@ -1,5 +1,6 @@
 //! Where each kept fact stands, by its bytes.
-ghost use Rattle.std.specs.Prelude.{◌≡◌, ◌++◌, ◌∷◌, [], ℕ, List, length, Some, IfOk, OnOk, OnErr, cond};
+ghost use Rattle.std.specs.Prelude.{◌≡◌, ◌++◌, ◌∷◌, [], ℕ, List};
+ghost use Rattle.std.specs.Prelude.{length, Some, IfOk, OnOk, OnErr, cond};
 ghost use Rattle.cert_format.specs.Kept.{same};
 ghost use Rattle.cert_format.specs.Keeping.{found, EntersPlace};
 ghost use Rattle.cert_format.specs.Spelling.{fact_bytes, front};

@@ -1,5 +1,6 @@
 //! The bytes of a certificate's parts, each appended to what was written before.
-ghost use Rattle.std.specs.Prelude.{◌≡◌, ◌<◌, ◌≤◌, ◌^◌, ◌++◌, ◌∷◌, [], length, take, OnOk, IsSome, IfSome};
+ghost use Rattle.std.specs.Prelude.{◌≡◌, ◌<◌, ◌≤◌, ◌^◌, ◌++◌, ◌∷◌};
+ghost use Rattle.std.specs.Prelude.{[], length, take, OnOk, IsSome, IfSome};
 ghost use Rattle.std.specs.List.{flat_map, AllByRecursion};
 ghost use Rattle.cert_format.specs.declared.spelled.TheConstants.{SPELLED};
 ghost use Rattle.flag_relation.specs.Equality.{kind_number, reg_number};

@@ -4,7 +4,8 @@ ghost use Rattle.viper_word.specs.Divisors.{divides};
 ghost use Rattle.viper_word.specs.Words.{IsSigned};
 ghost use Rattle.cert_format.specs.Reading.{Reads};
 ghost use Rattle.cert_format.specs.ReadValues.{value_of, parts_at, value_at};
-ghost use Rattle.cert_format.specs.evidence.ValueForms.{is_single, is_several, is_value, residue_of};
+ghost use Rattle.cert_format.specs.evidence.ValueForms.{is_single, is_several};
+ghost use Rattle.cert_format.specs.evidence.ValueForms.{is_value, residue_of};
 
 use crate::fault::{CertRule, ReadError};
 use crate::limits::VALUE;

@@ -134,20 +134,24 @@ byte_again n rest = rw (long_enough (length rest)) refl
 -- ---- one after the other
 
 -- what a reader of one takes
+abbrev pub TakesOne : {X : Type 0} → (List ℕ → Result (X × List ℕ) Fault) → (X → List ℕ) → (X → Type 0) → Type 0
+TakesOne {X} one text P = (bytes : List ℕ) (x : X × List ℕ) → IsBytes bytes → one bytes ≡ Ok x → Takes bytes (text x.0) x.1 × P x.0
+
+-- and reads again
 pub record Reader {X : Type 0} (one : List ℕ → Result (X × List ℕ) Fault) (text : X → List ℕ) (P : X → Type 0) : Type 0 where
-  pub takes : (bytes : List ℕ) (x : X × List ℕ) → IsBytes bytes → one bytes ≡ Ok x → Takes bytes (text x.0) x.1 × P x.0
+  pub takes : TakesOne one text P
   pub again : (x : X) (rest : List ℕ) → P x → one (text x ++ rest) ≡ Ok (x, rest)
 
-pub many_takes : {X : Type 0} (one : List ℕ → Result (X × List ℕ) Fault) (text : X → List ℕ) (P : X → Type 0) → Reader one text P → (n : ℕ) (bytes : List ℕ) (x : List X × List ℕ) → IsBytes bytes → many_at one n bytes ≡ Ok x
+pub many_takes : {X : Type 0} (one : List ℕ → Result (X × List ℕ) Fault) (text : X → List ℕ) (P : X → Type 0) → TakesOne one text P → (n : ℕ) (bytes : List ℕ) (x : List X × List ℕ) → IsBytes bytes → many_at one n bytes ≡ Ok x
     → Takes bytes (flat_map text x.0) x.1 × (length x.0 ≡ n) × AllByRecursion P x.0
 unfolding many_at
-many_takes {X} one text P reader zero bytes x fits e =
+many_takes {X} one text P takes zero bytes x fits e =
     subst (λ (y : List X × List ℕ). Takes bytes (flat_map text y.0) y.1 × (length y.0 ≡ 0) × AllByRecursion P y.0) (ok_is ([], bytes) x e) (record { parts = refl; rest_fits = fits }, refl, tt)
-many_takes {X} one text P reader (suc n) bytes x fits e =
+many_takes {X} one text P takes (suc n) bytes x fits e =
     let first = bind_ok (one bytes) (λ (a : X × List ℕ). many_at one n a.1 >>= λ b. Ok (a.0 ∷ b.0, b.1)) x e in
     let others = bind_ok (many_at one n first.0.1) (λ (b : List X × List ℕ). Ok (first.0.0 ∷ b.0, b.1)) x first.2 in
-    let t = reader.takes bytes first.0 fits first.1 in
-    let ts = many_takes one text P reader n first.0.1 others.0 t.0.rest_fits others.1 in
+    let t = takes bytes first.0 fits first.1 in
+    let ts = many_takes one text P takes n first.0.1 others.0 t.0.rest_fits others.1 in
     let all = Takes-then bytes (text first.0.0) first.0.1 (flat_map text others.0.0) others.0.1 t.0 ts.0 in
     subst (λ (y : List X × List ℕ). Takes bytes (flat_map text y.0) y.1 × (length y.0 ≡ suc n) × AllByRecursion P y.0) (ok_is (first.0.0 ∷ others.0.0, others.0.1) x others.2) (all, omega (arith, ts.1), (t.1, ts.2))
 
