@@ -7,7 +7,7 @@ use Rattle.memory_plan.specs.Plans.{PlanLines}
 use Rattle.memory_plan.specs.declared.start.Start.{Start}
 use Rattle.abs_step.specs.declared.outcome.Cond.{Cond}
 use Rattle.cert_format.specs.Certificates.{NodeOf, CertificateOf}
-use Rattle.cert_checker.specs.Conditions.{is_data, is_start_covered, node_fault, Local}
+use Rattle.cert_checker.specs.Conditions.{is_data, is_start_covered, node_fault, LocalOfFull}
 use Rattle.cert_checker.specs.Verdicts.{or_else, refuse, first_of, cell_refusal, start_refusal, node_refusal, first_failure, bounds_of, verdict_from, verdict_of}
 use Rattle.cert_checker.specs.Exactness.{FailsFirst, IsExact}
 use Rattle.cert_checker.specs.declared.verdict.Bound.{Bound}
@@ -42,7 +42,7 @@ err_of bounds (Some q) r h = ap Some (same q r h)
     same q r h = cc
 
 module _ {T : Type 0} (d : Domain T) (plan : PlanLines) (price : ℕ → ℕ) (c : CertificateOf T) where
-  none_local : first_failure d plan price c ≡ None → Local d plan price c
+  none_local : first_failure d plan price c ≡ None → LocalOfFull d plan price c
   none_local h =
       let one = or_none (first_of (cell_refusal plan) 0 c.cells) _ h in
       let two = or_none (first_of (start_refusal d plan c) 0 plan.starts) (first_of (node_refusal d plan price c) 0 c.nodes) one.1 in
@@ -55,14 +55,14 @@ module _ {T : Type 0} (d : Domain T) (plan : PlanLines) (price : ℕ → ℕ) (c
             (each_passes (node_refusal d plan price c) (λ (n : NodeOf T). node_fault d plan c.cells price c.nodes n ≡ None) (λ k n e. map_none _ (node_fault d plan c.cells price c.nodes n) e) 0 c.nodes two.1);
       }
 
-  local_none : Local d plan price c → first_failure d plan price c ≡ None
+  local_none : LocalOfFull d plan price c → first_failure d plan price c ≡ None
   local_none local =
       let cells : first_of (cell_refusal plan) 0 c.cells ≡ None = all_pass (cell_refusal plan) (λ (at : ℕ). is_data plan at ≡ true) (λ k at e. refuse_true (is_data plan at) _ e) 0 c.cells
-          (recursion_from_All (λ (at : ℕ). is_data plan at ≡ true) c.cells local.cells) in
+      (recursion_from_All (λ (at : ℕ). is_data plan at ≡ true) c.cells local.cells) in
       let starts : first_of (start_refusal d plan c) 0 plan.starts ≡ None = all_pass (start_refusal d plan c) (λ (s : Start). is_start_covered d plan c.cells c.nodes c.starts s ≡ true) (λ k s e. refuse_true (is_start_covered d plan c.cells c.nodes c.starts s) _ e) 0 plan.starts
-          (recursion_from_All (λ (s : Start). is_start_covered d plan c.cells c.nodes c.starts s ≡ true) plan.starts local.starts) in
+      (recursion_from_All (λ (s : Start). is_start_covered d plan c.cells c.nodes c.starts s ≡ true) plan.starts local.starts) in
       let nodes : first_of (node_refusal d plan price c) 0 c.nodes ≡ None = all_pass (node_refusal d plan price c) (λ (n : NodeOf T). node_fault d plan c.cells price c.nodes n ≡ None) (λ k n e. ap (option_map _) e) 0 c.nodes
-          (recursion_from_All (λ (n : NodeOf T). node_fault d plan c.cells price c.nodes n ≡ None) c.nodes local.nodes) in
+      (recursion_from_All (λ (n : NodeOf T). node_fault d plan c.cells price c.nodes n ≡ None) c.nodes local.nodes) in
       rw (cells, starts, nodes) refl
 
   first_by : (r : Refusal) (o p q : Option Refusal) → first_of (cell_refusal plan) 0 c.cells ≡ o → first_of (start_refusal d plan c) 0 plan.starts ≡ p

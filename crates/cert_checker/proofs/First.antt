@@ -27,7 +27,8 @@ module _ {A : Type 0} (refusal : ℕ → A → Option Refusal) where
   none_from k [] none j x there = absurd (none-some x there)
   none_from k (y ∷ xs) none zero x there =
       let same : y ≡ x = same_Some y x there in
-      rw (← same) ((or_none (refusal k y) (first_of refusal (k + 1) xs) none).0)
+      let here : refusal k x ≡ None = rw (← same) (or_none (refusal k y) (first_of refusal (k + 1) xs) none).0 in
+      subst (λ (n : ℕ). refusal n x ≡ None) (omega arith) here
   none_from k (y ∷ xs) none (suc j) x there =
       let rest = none_from (k + 1) xs (or_none (refusal k y) (first_of refusal (k + 1) xs) none).1 j x there in
       subst (λ (n : ℕ). refusal n x ≡ None) (omega arith) rest
@@ -42,33 +43,35 @@ module _ {A : Type 0} (refusal : ℕ → A → Option Refusal) where
     refused : refusal (k + i) x ≡ Some r
     before : (j : ℕ) (y : A) → j < i → slice_get xs j ≡ Some y → refusal (k + j) y ≡ None
 
+  earlier : (k : ℕ) (x : A) (xs : List A) (r : Refusal) → refusal k x ≡ None → (f : Found (k + 1) xs r) → (j : ℕ) (y : A) → j < suc f.i → slice_get (x ∷ xs) j ≡ Some y → refusal (k + j) y ≡ None
+  earlier k x xs r e f zero y low at =
+      let same : x ≡ y = same_Some x y at in
+      let here : refusal k y ≡ None = rw (← same) e in
+      subst (λ (n : ℕ). refusal n y ≡ None) (omega arith) here
+  earlier k x xs r e f (suc j) y low at = subst (λ (n : ℕ). refusal n y ≡ None) (omega arith) (f.before j y (omega (arith, low)) at)
+
+  found_by : (k : ℕ) (x : A) (xs : List A) (r : Refusal) (o : Option Refusal) → refusal k x ≡ o → (first_of refusal (k + 1) xs ≡ Some r → Found (k + 1) xs r)
+      → or_else o (first_of refusal (k + 1) xs) ≡ Some r → Found k (x ∷ xs) r
+  found_by k x xs r (Some q) e more h = record {
+    i = 0;
+    x = x;
+    there = refl;
+    refused = subst (λ (n : ℕ). refusal n x ≡ Some r) (omega arith) (e ∙ h);
+    before = λ j y low at. absurd (omega (arith, low));
+  }
+  found_by k x xs r None e more h =
+      let f = more h in
+      record {
+        i = suc f.i;
+        x = f.x;
+        there = f.there;
+        refused = subst (λ (n : ℕ). refusal n f.x ≡ Some r) (omega arith) f.refused;
+        before = earlier k x xs r e f;
+      }
+
   found : (k : ℕ) (xs : List A) (r : Refusal) → first_of refusal k xs ≡ Some r → Found k xs r
   found k [] r h = absurd (none-some r h)
-  found k (x ∷ xs) r h = by (refusal k x) refl h
-    where
-      earlier : refusal k x ≡ None → (f : Found (k + 1) xs r) → (j : ℕ) (y : A) → j < suc f.i → slice_get (x ∷ xs) j ≡ Some y → refusal (k + j) y ≡ None
-      earlier e f zero y low at =
-          let same : x ≡ y = same_Some x y at in
-          rw (← same) e
-      earlier e f (suc j) y low at = subst (λ (n : ℕ). refusal n y ≡ None) (omega arith) (f.before j y (omega (arith, low)) at)
-
-      by : (o : Option Refusal) → refusal k x ≡ o → or_else o (first_of refusal (k + 1) xs) ≡ Some r → Found k (x ∷ xs) r
-      by (Some q) e h = record {
-        i = 0;
-        x = x;
-        there = refl;
-        refused = e ∙ h;
-        before = λ j y low at. absurd (omega (arith, low));
-      }
-      by None e h =
-          let f = found (k + 1) xs r h in
-          record {
-            i = suc f.i;
-            x = f.x;
-            there = f.there;
-            refused = subst (λ (n : ℕ). refusal n f.x ≡ Some r) (omega arith) f.refused;
-            before = earlier e f;
-          }
+  found k (x ∷ xs) r h = found_by k x xs r (refusal k x) refl (found (k + 1) xs r) h
 
   pub first_found : (xs : List A) (r : Refusal) → first_of refusal 0 xs ≡ Some r → IsFirst refusal xs r
   first_found xs r h =

@@ -5,5 +5,6 @@ pub mod First
 pub mod Exact
 pub mod Fits
 pub mod Listing
+pub mod Filled
 pub mod Steps
 pub mod Runs

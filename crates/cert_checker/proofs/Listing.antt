@@ -1,13 +1,16 @@
 -- The first listers of nodes.
-use Rattle.std.proofs.Common.{◌≡◌, ℕ, zero, suc, ◌+◌, ◌<◌, ◌==◌, Bool, true, false, if◌then◌else◌, List, [], ◌∷◌, ◌++◌, length, take, replicate, Option, Some, None, refl, sym, ap, ◌∙◌, get_or, set, arith, ◌||◌, ◌⊎◌, inl, inr, false≢true}
+use Rattle.std.proofs.Common.{◌≡◌, ℕ, zero, suc, ◌+◌, ◌<◌, ◌==◌, Bool, true, false, if◌then◌else◌, List, [], ◌∷◌, ◌++◌, length, take, replicate, Option, Some, None, refl, sym, ap, ◌∙◌, get_or, set, arith, ◌||◌, ◌⊎◌, inl, inr}
 use Rattle.std.specs.List.{list_any, AllByRecursion}
 use Rattle.std.proofs.lemmas.List.{length-set}
-use Rattle.std.proofs.lemmas.Bool.{cases_Bool}
+use Rattle.std.proofs.lemmas.Bool.{cases_Bool, false≢true}
 use Rattle.std.proofs.lemmas.Bool.Decides.{Decides-eqb}
 use Rattle.cert_format.specs.Certificates.{NodeOf}
 use Rattle.cert_format.specs.Limits.{IsBelow}
 use Rattle.cert_checker.specs.Filling.{lists, lister}
-use Rattle.cert_checker.specs.Claiming.{or_first, claimed, claimed_all}
+use Rattle.cert_checker.specs.Claiming.{or_first, claimed, claimed_all, AreListers}
+
+abbrev nobody : Option ℕ
+nobody = None
 
 -- the first of both, if the second lists it
 abbrev pub or_listed : Option ℕ → Bool → ℕ → Option ℕ
@@ -59,15 +62,52 @@ all_claimed k (s ∷ ss) ls i h =
         ∙ same_listed (get_or ls i None) (list_any (λ t. t == i) ss) (list_any (λ t. t == i) (s ∷ ss)) k (sym (ap (λ (b : Bool). b || list_any (λ t. t == i) ss) e))
 
 -- one node more
+more_by : {T : Type 0} (i k : ℕ) (ns : List (NodeOf T)) (n : NodeOf T) (b : Bool) → lister i (k + 1) (ns ++ n ∷ []) ≡ or_listed (lister i (k + 1) ns) (lists i n) (k + 1 + length ns)
+    → (if b then Some k else lister i (k + 1) (ns ++ n ∷ [])) ≡ or_listed (if b then Some k else lister i (k + 1) ns) (lists i n) (k + suc (length ns))
+more_by i k ns n true rest = refl
+more_by i k ns n false rest = rest ∙ ap (λ (m : ℕ). or_listed (lister i (k + 1) ns) (lists i n) m) (omega arith)
+
 pub lister_more : {T : Type 0} (i k : ℕ) (ns : List (NodeOf T)) (n : NodeOf T) → lister i k (ns ++ n ∷ []) ≡ or_listed (lister i k ns) (lists i n) (k + length ns)
 lister_more i k [] n = ap (λ (m : ℕ). if lists i n then Some m else None) (omega arith)
-lister_more i k (m ∷ ns) n = by (lists i m) refl
-  where
-    by : (b : Bool) → lists i m ≡ b → (if b then Some k else lister i (k + 1) (ns ++ n ∷ [])) ≡ or_listed (if b then Some k else lister i (k + 1) ns) (lists i n) (k + suc (length ns))
-    by true e = refl
-    by false e = lister_more i (k + 1) ns n ∙ ap (λ (m : ℕ). or_listed (lister i (k + 1) ns) (lists i n) m) (omega arith)
+lister_more i k (m ∷ ns) n = more_by i k ns n (lists i m) (lister_more i (k + 1) ns n)
 
-pub none_there : (n i : ℕ) → get_or (replicate n (None {A = ℕ})) i None ≡ None
+length_none : (n : ℕ) → length (replicate n (nobody)) ≡ n
+length_none zero = refl
+length_none (suc n) = ap (λ (m : ℕ). suc m) (length_none n)
+
+none_there : (n i : ℕ) → get_or (replicate n nobody) i None ≡ None
 none_there zero i = refl
 none_there (suc n) zero = refl
 none_there (suc n) (suc i) = none_there n i
+
+-- at first no node has one
+pub none_listed : {T : Type 0} (nodes : List (NodeOf T)) → AreListers (length nodes) (take 0 nodes) (replicate (length nodes) None)
+none_listed nodes = record { count = length_none (length nodes); each = λ i low. none_there (length nodes) i }
+
+take_more : {A : Type 0} (xs : List A) (z : A) (i : ℕ) → i < length xs → take (suc i) xs ≡ take i xs ++ get_or xs i z ∷ []
+take_more [] z i h = absurd (omega (arith))
+take_more (x ∷ xs) z zero h = refl
+take_more (x ∷ xs) z (suc i) h = ap (λ (ys : List _). x ∷ ys) (take_more xs z i (omega (arith)))
+
+length_take : {A : Type 0} (xs : List A) (i : ℕ) → i < length xs → i ≡ 0 + length (take i xs)
+length_take [] i h = absurd (omega (arith))
+length_take (x ∷ xs) zero h = refl
+length_take (x ∷ xs) (suc i) h = let rest = length_take xs i (omega (arith)) in omega (arith, rest)
+
+-- one node more has claimed
+pub one_more : {T : Type 0} (nodes : List (NodeOf T)) (z : NodeOf T) (i : ℕ) (ls ls' : List (Option ℕ)) (ss : List ℕ) → i < length nodes
+    → AreListers (length nodes) (take i nodes) ls → ss ≡ (get_or nodes i z).succ → AllByRecursion (IsBelow (length nodes)) ss
+    → ls' ≡ claimed_all i ls ss → length ls' ≡ length ls → AreListers (length nodes) (take (suc i) nodes) ls'
+one_more nodes z i ls ls' ss h inv es below e same = record {
+  count = same ∙ inv.count;
+  each = λ j low.
+      let n = get_or nodes i z in
+      let in_ls : AllByRecursion (IsBelow (length ls)) ss = rw inv.count below in
+      ap (λ (q : List (Option ℕ)). get_or q j None) e
+      ∙ all_claimed i ss ls j in_ls
+      ∙ ap (λ (o : Option ℕ). or_listed o (list_any (λ s. s == j) ss) i) (inv.each j low)
+      ∙ ap (λ (xs : List ℕ). or_listed (lister j 0 (take i nodes)) (list_any (λ s. s == j) xs) i) es
+      ∙ ap (λ (m : ℕ). or_listed (lister j 0 (take i nodes)) (lists j n) m) (length_take nodes i h)
+      ∙ sym (lister_more j 0 (take i nodes) n)
+      ∙ ap (lister j 0) (sym (take_more nodes z i h));
+}

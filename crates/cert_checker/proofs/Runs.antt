@@ -20,7 +20,7 @@ use Rattle.abs_step.specs.States.{numbers_in}
 use Rattle.abs_step.specs.Conditions.{fault}
 use Rattle.abs_step.specs.StepLaws.{StepLaws, Ascend}
 use Rattle.cert_format.specs.Certificates.{NodeOf, CertificateOf}
-use Rattle.cert_checker.specs.Conditions.{known, Local}
+use Rattle.cert_checker.specs.Conditions.{known, LocalOfFull}
 use Rattle.cert_checker.specs.Verdicts.{raised, bound_at, bounds_of}
 use Rattle.cert_checker.specs.Claims.{price_of, spent, NoMarker, IsBound, Claimed, Holds, rank_in, IsAt, GoesOn, Suffices}
 use Rattle.cert_checker.specs.declared.verdict.Bound.{Bound}
@@ -71,7 +71,7 @@ room_after k fuel n h = omega arith
 
 module _ {T : Type 0} (d : Domain T) (plan : PlanLines) (price : ℕ → ℕ) (c : CertificateOf T)
     (facts : FactLaws d) (bounds : BoundLaws d) (steps : StepLaws d plan c.cells)
-    (well : IsWellFormed plan) (up : Ascend c.cells) (priced : (at : ℕ) → 1 ≤ price at) (local : Local d plan price c) where
+    (well : IsWellFormed plan) (up : Ascend c.cells) (priced : (at : ℕ) → 1 ≤ price at) (local : LocalOfFull d plan price c) where
   -- a state at some node
   record At (s : State) : Type 0 where
     node : NodeOf T

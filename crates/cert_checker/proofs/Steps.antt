@@ -25,7 +25,7 @@ use Rattle.abs_step.specs.StepLaws.{StepLaws, Ascend}
 use Rattle.abs_step.specs.Conditions.{outcomes}
 use Rattle.cert_format.specs.Certificates.{NodeOf, CertificateOf}
 use Rattle.cert_checker.specs.Nodes.{successor, are_distinct}
-use Rattle.cert_checker.specs.Conditions.{known, covers_start, includes_after, c8, c9, falls_to, c10, node_fault, Local}
+use Rattle.cert_checker.specs.Conditions.{known, covers_start, includes_after, c8, c9, falls_to, c10, node_fault, LocalOfFull}
 use Rattle.cert_checker.specs.Claims.{rank_in, IsAt, GoesOn, IsCarried}
 use Rattle.cert_checker.proofs.Nodes.{Stands, StandsAt, successor_stands, Keeps, node_keeps, Passing, some_passes, Includes, includes_some}
 
@@ -47,7 +47,7 @@ other_side false c h f = h
 
 module _ {T : Type 0} (d : Domain T) (plan : PlanLines) (price : ℕ → ℕ) (c : CertificateOf T)
     (facts : FactLaws d) (bounds : BoundLaws d) (steps : StepLaws d plan c.cells)
-    (well : IsWellFormed plan) (up : Ascend c.cells) (local : Local d plan price c) where
+    (well : IsWellFormed plan) (up : Ascend c.cells) (local : LocalOfFull d plan price c) where
   -- what is kept of each node that stands in the list, if some state meets its fact
   pub keeps : (n : NodeOf T) (s : State) → Stands c.nodes n → MeetsFact d plan c.cells (known d c.cells n) s → Keeps d plan c.cells price c.nodes n
   keeps n s st m =

@@ -4,12 +4,10 @@ use Rattle.num_domain.specs.Domain.{Domain}
 use Rattle.viper_word.specs.Machine.{State, next}
 use Rattle.memory_plan.specs.Plans.{PlanLines, IsStart, is_marker}
 use Rattle.memory_plan.specs.Runs.{IsRun, IsFair, AllSafe, AllBounded, IsUnreached}
-use Rattle.memory_plan.specs.WellFormed.{IsWellFormed}
 use Rattle.abs_step.specs.States.{MeetsFact, numbers_in}
-use Rattle.abs_step.specs.StepLaws.{Ascend}
 use Rattle.rank_form.specs.Weights.{value}
 use Rattle.cert_format.specs.Certificates.{NodeOf, CertificateOf}
-use Rattle.cert_checker.specs.Conditions.{known, Local}
+use Rattle.cert_checker.specs.Conditions.{known}
 use Rattle.cert_checker.specs.declared.verdict.Bound.{Bound}
 use Rattle.cert_checker.specs.declared.verdict.Bound.TheVariants.{Within, Unreached}
 use Rattle.cert_checker.specs.Verdicts.{bounds_of}
@@ -85,8 +83,3 @@ module _ {T : Type 0} (d : Domain T) (plan : PlanLines) (price : ℕ → ℕ) (c
   pub record Suffices : Type 0 where
     pub carried : IsCarried
     pub holds : Holds plan price (bounds_of d plan c)
-
-  -- prices of at least 1, and cells in ascending order
-  abbrev pub LocalSuffices : Type 0
-  LocalSuffices = IsWellFormed plan → Ascend c.cells → ((at : ℕ) → 1 ≤ price at)
-      → Local d plan price c → Suffices

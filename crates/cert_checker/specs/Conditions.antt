@@ -1,4 +1,5 @@
--- The local conditions of a certificate: each is read at one cell, one start or one node alone.
+-- The local conditions of a certificate whose bare nodes were filled: each is read at one cell, one start or
+-- one node alone.
 use Rattle.std.specs.Prelude.{◌≡◌, ℕ, ◌-◌, ◌^◌, ℤ, pos, neg_ℤ, int_le, Bool, true, false, not, ◌&&◌, ◌||◌, ◌==◌, if◌then◌else◌, List, [], ◌∷◌, length, Option, Some, None, is_some, All, slice_get}
 use Rattle.std.specs.List.{list_any, list_all}
 use Rattle.num_domain.specs.Domain.{Domain}
@@ -90,8 +91,8 @@ module _ {T : Type 0} (d : Domain T) (plan : PlanLines) (cells : List ℕ) (pric
       earlier (fault d plan cells n.addr (known d cells n))
       (flow_fault nodes n (outcomes d plan cells n.addr (known d cells n)))
 
--- all local conditions hold: of each cell, each start and each node
-pub record Local {T : Type 0} (d : Domain T) (plan : PlanLines) (price : ℕ → ℕ) (c : CertificateOf T) : Type 0 where
+-- of a full certificate all local conditions hold: of each cell, each start and each node
+pub record LocalOfFull {T : Type 0} (d : Domain T) (plan : PlanLines) (price : ℕ → ℕ) (c : CertificateOf T) : Type 0 where
   pub cells : All (λ at. is_data plan at ≡ true) c.cells
   pub starts : All (λ start. is_start_covered d plan c.cells c.nodes c.starts start ≡ true) plan.starts
   pub nodes : All (λ n. node_fault d plan c.cells price c.nodes n ≡ None) c.nodes

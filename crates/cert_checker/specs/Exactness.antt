@@ -3,7 +3,7 @@ use Rattle.std.specs.Prelude.{◌≡◌, ℕ, ◌<◌, List, Option, Some, None,
 use Rattle.num_domain.specs.Domain.{Domain}
 use Rattle.memory_plan.specs.Plans.{PlanLines}
 use Rattle.cert_format.specs.Certificates.{CertificateOf}
-use Rattle.cert_checker.specs.Conditions.{Local}
+use Rattle.cert_checker.specs.Conditions.{LocalOfFull}
 use Rattle.cert_checker.specs.Verdicts.{cell_refusal, start_refusal, node_refusal, bounds_of, verdict_of}
 use Rattle.cert_checker.specs.declared.verdict.Bound.{Bound}
 use Rattle.cert_checker.specs.declared.verdict.Refusal.{Refusal}
@@ -30,8 +30,8 @@ module _ {T : Type 0} (d : Domain T) (plan : PlanLines) (price : ℕ → ℕ) (c
       × IsFirst (node_refusal d plan price c) c.nodes r)))
 
   pub record IsExact : Type 0 where
-    pub yes : Local d plan price c → verdict_of d plan price c ≡ Ok (bounds_of d plan c)
+    pub yes : LocalOfFull d plan price c → verdict_of d plan price c ≡ Ok (bounds_of d plan c)
     pub only_where : (bounds : List (ℕ × Bound)) → verdict_of d plan price c ≡ Ok bounds
-        → Local d plan price c
+        → LocalOfFull d plan price c
     pub first : (r : Refusal) → verdict_of d plan price c ≡ Err r → FailsFirst r
-    pub not_where : (r : Refusal) → verdict_of d plan price c ≡ Err r → Local d plan price c → ⊥
+    pub not_where : (r : Refusal) → verdict_of d plan price c ≡ Err r → LocalOfFull d plan price c → ⊥

@@ -7,3 +7,4 @@ pub mod Claims
 pub mod Exactness
 pub mod Filling
 pub mod Claiming
+pub mod Local

@@ -1,4 +1,5 @@
--- What the checker answers: the first failure, or a bound for each marker.
+-- What the checker answers of a certificate whose bare nodes were filled: the first failure, or a bound for
+-- each marker.
 use Rattle.std.specs.Prelude.{ℕ, ◌+◌, Bool, not, ◌&&◌, option_map, List, [], ◌∷◌, map, max, Option, Some, None, Result, Ok, Err, unsigned_abs, ◌==◌, if◌then◌else◌}
 use Rattle.num_domain.specs.Domain.{Domain}
 use Rattle.memory_plan.specs.Plans.{PlanLines}

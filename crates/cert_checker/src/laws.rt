@@ -3,15 +3,14 @@
 ghost use Rattle.std.specs.Prelude.{ℕ};
 ghost use Rattle.memory_plan.specs.Plans.{PlanLines};
 ghost use Rattle.cert_format.specs.Certificates.{CertificateOf};
-ghost use Rattle.cert_checker.specs.Claims.{LocalSuffices};
-ghost use Rattle.cert_checker.specs.Exactness.{IsExact};
+ghost use Rattle.cert_checker.specs.Local.{LocalSuffices, YesExactlyWhereLocal};
 
 use num_domain::NumDomain;
 
-/// Local conditions suffice: over any domain, for any plan that was read, any cells in ascending order
-/// and any price of instructions of at least 1, they carry the facts and the ranks over every fair run.
-/// So every fair run is safe, and from each marker the next is met within its bound, or no run comes
-/// there. docs/METHOD.md, "Why a yes is true".
+/// Local conditions, which are those of the filled certificate, suffice: over any domain, for any plan
+/// that was read, any cells in ascending order and any price of instructions of at least 1, they
+/// carry the facts and the ranks over every fair run. So every fair run is safe, and from each marker
+/// the next is met within its bound, or no run comes there. docs/METHOD.md, "Why a yes is true".
 pub fn local_conditions_suffice<D: NumDomain>()
     ensures { (plan : PlanLines) (price : ℕ → ℕ) (c : CertificateOf D)
         → LocalSuffices D.domain plan price c }
@@ -21,5 +20,5 @@ pub fn local_conditions_suffice<D: NumDomain>()
 /// fails, exactly where one does. docs/METHOD.md, "The whole checker".
 pub fn yes_exactly_where_local<D: NumDomain>()
     ensures { (plan : PlanLines) (price : ℕ → ℕ) (c : CertificateOf D)
-        → IsExact D.domain plan price c }
+        → YesExactlyWhereLocal D.domain plan price c }
 {}

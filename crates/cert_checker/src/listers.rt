@@ -50,6 +50,17 @@ fn unlisted(alloc: Global, count: u32) -> Result<Vec<Option<u32>>, Memory>
     Ok(listers)
 }
 
+/// Lets each node be the lister of those that it lists and that have none yet. At first none has one.
+fn claim_all<D: Spelled>(cert: &CertOf<D>, listers: &mut [Option<u32>])
+    requires limits { IsWithinLimits cert.now }
+    requires none { listers.old ≡ replicate (length cert.now.nodes) None }
+    ensures { AreListers (length cert.now.nodes) cert.now.nodes listers.new }
+{
+    for i in 0..cert.len() {
+        claim(listers, i, cert.succ(i));
+    }
+}
+
 /// The first lister of each node, by its number. `Memory` for want of memory.
 pub(crate) fn listers<D: Spelled>(
     alloc: Global,
@@ -59,8 +70,6 @@ pub(crate) fn listers<D: Spelled>(
     ensures { IfOk result (λ v. AreListers (length cert.now.nodes) cert.now.nodes v.items) }
 {
     let mut listers = unlisted(alloc, cert.len())?;
-    for i in 0..cert.len() {
-        claim(listers.as_mut_slice(), i, cert.succ(i));
-    }
+    claim_all(cert, listers.as_mut_slice());
     Ok(listers)
 }

@@ -82,8 +82,8 @@ fn stuck_in(
     Ok(stuck)
 }
 
-/// None where the edges of a graph can be ranked by a choice. Else the edges of the first component
-/// that is stuck: no choice ranks these, nor all. An error for want of memory.
+/// None where the edges of a graph can be ranked by a choice. Else a set of them that is stuck: no
+/// choice ranks these, nor all. An error for want of memory.
 ///
 /// `marks` and `places` are room for all keys. docs/METHOD.md, "Components and nests".
 pub fn ranked(

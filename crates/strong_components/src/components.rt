@@ -102,7 +102,7 @@ fn forget(closed: &[u32], marks: &mut [Mark])
 /// least key, with an order of them in which no path leads from one to a later one.
 ///
 /// The edges stand in order of where they begin. `marks` is room for the marks of all keys, none
-/// of which is seen, before and after. Each key and each edge is taken once, and each key's first
+/// of which is seen; nor is one after Ok. Each key and each edge is taken once, and each key's first
 /// edge is found by halving. An error for want of memory. docs/METHOD.md, "Components and nests".
 pub fn components_of(
     alloc: Global,
