@@ -12,3 +12,4 @@ pub mod NodeLaws
 pub mod CertLaws
 pub mod MarkLaws
 pub mod ReadLaws
+pub mod WriteLaws

@@ -22,6 +22,7 @@ mod spelled;
 mod spelled_val;
 mod unread;
 mod version;
+mod writing;
 
 pub use cert::{Cert, CertOf};
 pub use fault::{CertFault, CertRule};
@@ -30,6 +31,7 @@ pub use limits::{MOST_FACTOR, MOST_NODES, MOST_RANK, MOST_SUCCESSORS};
 pub use reading::read_cert;
 pub use spelled::{SPELLED, Spelled};
 pub use version::Version;
+pub use writing::write_cert;
 
 #[cfg(test)]
 mod tests;
