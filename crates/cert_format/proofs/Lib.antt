@@ -8,3 +8,8 @@ pub mod KeepingLaws
 pub mod KeepingSteps
 pub mod RankLaws
 pub mod NodeLoops
+pub mod NodeLaws
+pub mod CertLaws
+pub mod MarkLaws
+pub mod ReadLaws
+pub mod WriteLaws

@@ -2,6 +2,7 @@ pub mod Certificates
 pub mod Limits
 pub mod Values
 pub mod Bare
+pub mod Marks
 pub mod Spelling
 pub mod Kept
 pub mod Keeping

@@ -92,3 +92,14 @@ pub record IsKeptNode {T : Type 0} (cells : ℕ) (n : NodeOf T) : Type 0 where
 pub record IsKeptCert {T : Type 0} (c : CertificateOf T) : Type 0 where
   pub few_nodes : length c.nodes ≤ MOST_NODES
   pub nodes : AllByRecursion (IsKeptNode (length c.cells)) c.nodes
+
+-- a term whose variable fits into a byte, and whose coefficient is at most 2^40 in size
+pub record IsShortTerm (t : Var × ℤ) : Type 0 where
+  pub number : var_number t.0 < 256
+  pub size : IsWithin MOST_FACTOR t.1
+
+-- a node whose lists and numbers fit into their fields
+pub record IsShortNode {T : Type 0} (n : NodeOf T) : Type 0 where
+  pub few : length n.succ ≤ MOST_SUCCESSORS
+  pub constant : IsWithin MOST_RANK n.rank.constant
+  pub terms : AllByRecursion IsShortTerm n.rank.terms

@@ -69,28 +69,22 @@ gathered c lefts read = read >>= λ r.
 abbrev pub certificate_of : Heading → List Placed → CertificateOf Val
 certificate_of h placed = record { cells = h.cells; starts = h.starts; nodes = nodes_of placed }
 
--- how many bytes were left at the tag of that node
-abbrev pub left_at : List Placed → ℕ → ℕ
-left_at placed i = get_or (lefts_of placed) i 0
-
 -- the rule Bare at the tag of the node, if there is one
-abbrev pub unless_bare : Option ℕ → List Placed → CertificateOf Val → Result (CertificateOf Val) Fault
-unless_bare None placed c = Ok c
-unless_bare (Some i) placed c = Err (record { left = left_at placed i; rule = rules.Bare })
+abbrev pub unless_bare : Option ℕ → List ℕ → CertificateOf Val → Result (CertificateOf Val) Fault
+unless_bare None lefts c = Ok c
+unless_bare (Some i) lefts c = Err (record { left = get_or lefts i 0; rule = rules.Bare })
 
--- all nodes, which end the bytes, with the rule Bare
-unfoldable pub ended : Heading → List Placed × List ℕ → Result (CertificateOf Val) Fault
-ended h nodes = (
-    if length nodes.1 == 0
-    then unless_bare (first_bare (certificate_of h nodes.0)) nodes.0 (certificate_of h nodes.0)
-    else fault nodes.1 rules.Trailing)
+-- the nodes end the bytes, and the rule Bare is kept; so many bytes were left at each node's tag
+unfoldable pub ended : CertificateOf Val → List ℕ → List ℕ → Result (CertificateOf Val) Fault
+ended c lefts rest = (
+    if length rest == 0 then unless_bare (first_bare c) lefts c else fault rest rules.Trailing)
 
 unfoldable pub cert_of : List ℕ → Result (CertificateOf Val) Fault
 cert_of bytes = do
   heading ← heading_at bytes
   nodes ← many_at (placed_at heading.0.version (length heading.0.cells) heading.0.count)
       heading.0.count heading.1
-  ended heading.0 nodes
+  ended (certificate_of heading.0 nodes.0) (lefts_of nodes.0) nodes.1
 
 -- a fault stands at a byte, counted from 0
 abbrev pub at_offset : List ℕ → Fault → CertFault
@@ -117,3 +111,18 @@ heading h = record {
 abbrev pub MovesOn : Result (Unit {0}) ReadError → List ℕ → Result (List ℕ) Fault → Type 0
 MovesOn (Ok x) rest read = read ≡ Ok rest
 MovesOn (Err e) rest read = Fails e read
+
+-- a certificate that a function returned is the one that is read, unless memory ran out
+abbrev pub Gives : Result (CertificateOf Val) ReadError → Result (CertificateOf Val) Fault → Type 0
+Gives (Ok c) read = read ≡ Ok c
+Gives (Err e) read = Fails e read
+
+-- a fault of the bytes is the first one
+abbrev pub IsFirstFault : List ℕ → CertFault → Type 0
+IsFirstFault bytes faults.Memory = Unit {0}
+IsFirstFault bytes (faults.At offset rule) = first_fault bytes ≡ Some (faults.At offset rule)
+
+-- the answer is the certificate, unless memory ran out
+abbrev pub IsOrMemory : CertificateOf Val → Result (CertificateOf Val) CertFault → Type 0
+IsOrMemory c (Ok d) = d ≡ c
+IsOrMemory c (Err e) = e ≡ faults.Memory

@@ -5,9 +5,11 @@
 //! break; `write_cert` writes version 2. docs/FORMATS.md, "Certificates", has the layout.
 #![tactic(auto)]
 
+mod bare;
 mod cert;
 mod fault;
 mod fields;
+mod laws;
 mod limits;
 mod places;
 mod put;
@@ -20,12 +22,16 @@ mod spelled;
 mod spelled_val;
 mod unread;
 mod version;
+mod writing;
 
 pub use cert::{Cert, CertOf};
 pub use fault::{CertFault, CertRule};
+pub use laws::spellings_are_unique;
 pub use limits::{MOST_FACTOR, MOST_NODES, MOST_RANK, MOST_SUCCESSORS};
+pub use reading::read_cert;
 pub use spelled::{SPELLED, Spelled};
 pub use version::Version;
+pub use writing::write_cert;
 
 #[cfg(test)]
 mod tests;

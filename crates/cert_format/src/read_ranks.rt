@@ -62,7 +62,7 @@ fn term_at(cells: u8, from: u16, input: &mut Unread<'_>) -> Result<(Var, i128), 
 }
 
 /// The number of a variable.
-fn number_of(var: Var) -> u16
+pub(crate) fn number_of(var: Var) -> u16
     ensures { result ≡ var_number var }
 {
     match var {

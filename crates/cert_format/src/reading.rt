@@ -1,15 +1,19 @@
 //! Reading a certificate whole.
-ghost use Rattle.std.specs.Prelude.{◌≡◌, ◌<◌, ◌≤◌, length, OnOk, []};
+ghost use Rattle.std.specs.Prelude.{◌≡◌, ◌<◌, ◌≤◌, length, OnOk, IfOk, IfErr, []};
+ghost use Rattle.val_dom.specs.declared.val.Val.{Val};
 ghost use Rattle.flag_relation.specs.declared.fact.TheConstants.{MOST_CELLS};
 ghost use Rattle.cert_format.specs.declared.limits.TheConstants.{MOST_NODES};
-ghost use Rattle.cert_format.specs.Certificates.{with_node};
+ghost use Rattle.cert_format.specs.Certificates.{CertificateOf, with_node};
+ghost use Rattle.cert_format.specs.Spelling.{IsCert};
 ghost use Rattle.cert_format.specs.Reading.{Reads, many_at};
 ghost use Rattle.cert_format.specs.ReadNodes.{placed, placed_at, IsOver};
 ghost use Rattle.cert_format.specs.ReadCerts.{magic_at, version_at, tracked_at, gathered};
-ghost use Rattle.cert_format.specs.ReadCerts.{MovesOn, heading, heading_at};
+ghost use Rattle.cert_format.specs.ReadCerts.{MovesOn, heading, heading_at, Gives, ended};
+ghost use Rattle.cert_format.specs.ReadCerts.{cert_of, IsFirstFault, IsOrMemory};
 
+use crate::bare::first_bare;
 use crate::cert::Cert;
-use crate::fault::{CertRule, ReadError};
+use crate::fault::{CertFault, CertRule, ReadError};
 use crate::fields::{below_at, cells_at, count_at, numbers_at};
 use crate::limits::{MAGIC, MOST_NODES, MOST_STARTS};
 use crate::read_nodes::{ReadNode, node_at};
@@ -114,7 +118,9 @@ struct ReadHeading {
 /// What stands before the nodes.
 #[tactic(auto, unfolding(crate::specs::ReadCerts::heading_at))]
 fn heading_at(alloc: Global, input: &mut Unread<'_>) -> Result<ReadHeading, ReadError>
-    ensures { Reads heading result input.new (heading_at input.old) }
+    ensures value { Reads heading result input.new (heading_at input.old) }
+    ensures cells { IfOk result (λ h. length h.cells.items ≤ MOST_CELLS) }
+    ensures count { IfOk result (λ h. h.count ≤ MOST_NODES) }
 {
     magic_at(input)?;
     let version = version_at(input)?;
@@ -127,4 +133,60 @@ fn heading_at(alloc: Global, input: &mut Unread<'_>) -> Result<ReadHeading, Read
         count,
         starts,
     })
+}
+
+/// The nodes end the bytes, and the rule Bare is kept.
+#[tactic(auto, unfolding(crate::specs::ReadCerts::ended))]
+fn ended(
+    alloc: Global,
+    cert: Cert,
+    lefts: &[usize],
+    input: &Unread<'_>,
+) -> Result<Cert, ReadError>
+    ensures { Gives result (ended cert lefts.now input.now) }
+{
+    if input.left() != 0 {
+        return Err(broken(input.left(), CertRule::Trailing));
+    }
+    let Some(node) = first_bare(alloc, &cert)? else {
+        return Ok(cert);
+    };
+    let left = lefts.get(node as usize).copied().unwrap_or(0);
+    Err(broken(left, CertRule::Bare))
+}
+
+/// A certificate, which is all of the bytes.
+fn cert_of(alloc: Global, bytes: &[u8]) -> Result<Cert, ReadError>
+    ensures { Gives result (cert_of bytes.now) }
+{
+    let mut input = Unread::new(bytes);
+    let heading = heading_at(alloc, &mut input)?;
+    let ReadHeading {
+        version,
+        cells,
+        count,
+        starts,
+    } = heading;
+    let mut cert = Cert::new(alloc, cells, starts);
+    let lefts = nodes_at(alloc, version, count, &mut cert, &mut input)?;
+    ended(alloc, cert, lefts.as_slice(), &input)
+}
+
+/// Reads a certificate of version 1 or 2 (docs/FORMATS.md, "Certificates"): the one that the bytes
+/// spell. `At` is the first rule that they break, with the offset of the field that breaks it, and
+/// `Memory` want of memory. Bytes that spell a certificate give it, unless memory runs out.
+pub fn read_cert(alloc: Global, bytes: &[u8]) -> Result<Cert, CertFault>
+    ensures found { IfOk result (λ c. (v : Version) × IsCert v bytes.now c) }
+    ensures fault { IfErr result (λ e. IsFirstFault bytes.now e) }
+    ensures only { (v : Version) (c : CertificateOf Val) → IsCert v bytes.now c
+        → IsOrMemory c result }
+{
+    match cert_of(alloc, bytes) {
+        Ok(cert) => Ok(cert),
+        Err(ReadError::Memory) => Err(CertFault::Memory),
+        Err(ReadError::At(fault)) => Err(CertFault::At {
+            offset: bytes.len().saturating_sub(fault.left) as u64,
+            rule: fault.rule,
+        }),
+    }
 }

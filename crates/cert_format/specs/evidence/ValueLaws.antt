@@ -233,5 +233,5 @@ value_again v rest =
     apart : (x y : ℤ) → x ≤ℤ y → (x ≡ y) ⊎ (x <ℤ y)
     apart x y h = ⊎_elim (λ (t : int_le y x ≡ true). let l = le_true y x t in inl (omega (arith, ints))) (λ (t : int_le y x ≡ false). inr (le_false y x t)) (cases_Bool (int_le y x))
 
-pub IsAny : Val → Type 0
+abbrev pub IsAny : Val → Type 0
 IsAny v = Unit {0}
