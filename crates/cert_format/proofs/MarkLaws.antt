@@ -64,11 +64,11 @@ pub marks_tell : (c : CertificateOf Val) (marks : List ℕ) (k : ℕ) → length
 marks_tell c marks k done few len way = record {
   len = len;
   ones = λ i lt.
-  let s = times i c.starts in
-  let over : weight MOST_NODES i s ≡ s + s = rw (le-ltb MOST_NODES i (omega arith)) refl in
-  let none : weights k i (drop k c.nodes) ≡ 0 = ap (λ (ns : List (NodeOf Val)). weights k i ns) (drop_all k c.nodes done) in
-  let sum : min (get_or marks i 0 + 0) 255 ≡ min ((s + s) + weights 0 i c.nodes) 255 = ap (λ (n : ℕ). min (get_or marks i 0 + n) 255) (sym none) ∙ way i lt ∙ ap (λ (n : ℕ). min (n + weights 0 i c.nodes) 255) over in
-  tells (get_or marks i 0) s (weights 0 i c.nodes) (listed i c.nodes) (listed i (take i c.nodes)) sum (front_once 0 i i c.nodes (omega arith)) (front_fewer i i c.nodes);
+      let s = times i c.starts in
+      let over : weight MOST_NODES i s ≡ s + s = rw (le-ltb MOST_NODES i (omega arith)) refl in
+      let none : weights k i (drop k c.nodes) ≡ 0 = ap (λ (ns : List (NodeOf Val)). weights k i ns) (drop_all k c.nodes done) in
+      let sum : min (get_or marks i 0 + 0) 255 ≡ min ((s + s) + weights 0 i c.nodes) 255 = ap (λ (n : ℕ). min (get_or marks i 0 + n) 255) (sym none) ∙ way i lt ∙ ap (λ (n : ℕ). min (n + weights 0 i c.nodes) 255) over in
+      tells (get_or marks i 0) s (weights 0 i c.nodes) (listed i c.nodes) (listed i (take i c.nodes)) sum (front_once 0 i i c.nodes (omega arith)) (front_fewer i i c.nodes);
 }
 
 -- ---- the search

@@ -43,7 +43,6 @@ tracked_within bytes x e =
 
 -- ---- part after part
 
-
 pub err_is : {A : Type 0} (f g : Fault) → ◌≡◌ {A = Result A Fault} (Err f) (Err g) → f ≡ g
 err_is f g e = cc
 

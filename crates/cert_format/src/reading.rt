@@ -137,12 +137,7 @@ fn heading_at(alloc: Global, input: &mut Unread<'_>) -> Result<ReadHeading, Read
 
 /// The nodes end the bytes, and the rule Bare is kept.
 #[tactic(auto, unfolding(crate::specs::ReadCerts::ended))]
-fn ended(
-    alloc: Global,
-    cert: Cert,
-    lefts: &[usize],
-    input: &Unread<'_>,
-) -> Result<Cert, ReadError>
+fn ended(alloc: Global, cert: Cert, lefts: &[usize], input: &Unread<'_>) -> Result<Cert, ReadError>
     ensures { Gives result (ended cert lefts.now input.now) }
 {
     if input.left() != 0 {

@@ -14,7 +14,7 @@ loop-i-preserved g c =
     let low : i < length cert.nodes = omega (arith, c.loop-i-test.true, c.len-i-end.ensures.count) in
     let node = one_of (IsNode (length cert.cells) (length cert.nodes)) cert.nodes no_node i c.requires.limits.nodes low in
     let below : AllByRecursion (IsBelow (length cert.nodes)) c.succ.result.now =
-        subst (λ (ss : List ℕ). AllByRecursion (IsBelow (length cert.nodes)) ss) (sym c.succ.ensures) node.succ in
+    subst (λ (ss : List ℕ). AllByRecursion (IsBelow (length cert.nodes)) ss) (sym c.succ.ensures) node.succ in
     let more = one_more cert.nodes no_node i c.loop-i.listers c.claim.new.listers c.succ.result.now low c.loop-i.invariant c.succ.ensures below c.claim.ensures.claimed c.claim.ensures.count in
     let next : suc i ≡ i + 1 = omega arith in
     subst (λ (n : ℕ). AreListers (length cert.nodes) (take n cert.nodes) c.claim.new.listers) next more
