@@ -1,11 +1,10 @@
 -- A yes comes exactly where all local conditions hold, and a no names what fails first.
-use Rattle.std.proofs.Common.{◌≡◌, ℕ, List, Bool, true, false, Option, Some, None, Result, Ok, Err, refl, sym, ap, ◌∙◌, inl, inr, if◌then◌else◌, option_map}
+use Rattle.std.proofs.Common.{◌≡◌, ℕ, List, Bool, true, false, Option, Some, None, Result, Ok, Err, refl, sym, ap, ◌∙◌, inl, inr, option_map}
 use Rattle.std.proofs.lemmas.Option.{none-some}
 use Rattle.std.proofs.lemmas.List.Elements.{All-from_recursion, recursion_from_All}
 use Rattle.num_domain.specs.Domain.{Domain}
 use Rattle.memory_plan.specs.Plans.{PlanLines}
 use Rattle.memory_plan.specs.declared.start.Start.{Start}
-use Rattle.abs_step.specs.declared.outcome.Cond.{Cond}
 use Rattle.cert_format.specs.Certificates.{NodeOf, CertificateOf}
 use Rattle.cert_checker.specs.Conditions.{is_data, is_start_covered, node_fault, LocalOfFull}
 use Rattle.cert_checker.specs.Verdicts.{or_else, refuse, first_of, cell_refusal, start_refusal, node_refusal, first_failure, bounds_of, verdict_from, verdict_of}

@@ -1,14 +1,12 @@
 -- Where no condition fails each marker's bound fits.
-use Rattle.std.proofs.Common.{◌≡◌, ℕ, ◌+◌, ◌-◌, ◌<◌, ◌^◌, ◌==◌, ◌||◌, Bool, true, false, not, List, [], ◌∷◌, Option, Some, None, refl, sym, ap, subst, ℤ, pos, negsuc, int_le, unsigned_abs, ◌≤ℤ◌, arith}
-use Rattle.std.specs.List.{list_any, AllByRecursion}
+use Rattle.std.proofs.Common.{◌≡◌, ℕ, ◌-◌, ◌<◌, ◌^◌, ◌==◌, ◌||◌, Bool, true, false, not, List, [], ◌∷◌, None, refl, sym, ap, subst, ℤ, pos, negsuc, int_le, unsigned_abs, ◌≤ℤ◌, arith}
+use Rattle.std.specs.List.{AllByRecursion}
 use Rattle.std.proofs.lemmas.Bool.Decides.{Decides-eqb}
 use Rattle.std.proofs.lemmas.Int.{ints}
-use Rattle.std.proofs.lemmas.Option.{none-some}
 use Rattle.num_domain.specs.Domain.{Domain}
 use Rattle.memory_plan.specs.Plans.{PlanLines, has_marker, is_marker}
 use Rattle.rank_form.specs.Bounds.{upper, lower}
 use Rattle.rank_form.specs.Laws.{FormLaws}
-use Rattle.abs_step.specs.declared.outcome.Cond.{Cond}
 use Rattle.cert_format.specs.Certificates.{NodeOf, CertificateOf}
 use Rattle.cert_checker.specs.Conditions.{known, c9, c11, node_fault}
 use Rattle.cert_checker.specs.Small.{IsSmallAt, AreSmallAt}
@@ -16,7 +14,7 @@ use Rattle.std.proofs.Common.{Ok}
 use Rattle.cert_checker.specs.Verdicts.{first_of, cell_refusal, start_refusal, node_refusal, first_failure, bounds_of, verdict_from, verdict_of}
 use Rattle.cert_checker.proofs.First.{or_none, each_passes}
 use Rattle.cert_checker.proofs.Exact.{map_none}
-use Rattle.cert_checker.proofs.Nodes.{Keeps, node_keeps}
+use Rattle.cert_checker.proofs.Nodes.{node_keeps}
 
 -- each marker of a list passes where each that it has does
 each_marker : (P : ℕ → Type 0) (ms : List ℕ) → ((m : ℕ) → has_marker ms m ≡ true → P m) → AllByRecursion P ms

@@ -5,6 +5,9 @@ pub mod First
 pub mod Exact
 pub mod Fits
 pub mod Listing
+pub mod Before
 pub mod Filled
+pub mod MarkLaws
+pub mod Packed
 pub mod Steps
 pub mod Runs

@@ -84,12 +84,12 @@ none_there (suc n) (suc i) = none_there n i
 pub none_listed : {T : Type 0} (nodes : List (NodeOf T)) → AreListers (length nodes) (take 0 nodes) (replicate (length nodes) None)
 none_listed nodes = record { count = length_none (length nodes); each = λ i low. none_there (length nodes) i }
 
-take_more : {A : Type 0} (xs : List A) (z : A) (i : ℕ) → i < length xs → take (suc i) xs ≡ take i xs ++ get_or xs i z ∷ []
+pub take_more : {A : Type 0} (xs : List A) (z : A) (i : ℕ) → i < length xs → take (suc i) xs ≡ take i xs ++ get_or xs i z ∷ []
 take_more [] z i h = absurd (omega (arith))
 take_more (x ∷ xs) z zero h = refl
 take_more (x ∷ xs) z (suc i) h = ap (λ (ys : List _). x ∷ ys) (take_more xs z i (omega (arith)))
 
-length_take : {A : Type 0} (xs : List A) (i : ℕ) → i < length xs → i ≡ 0 + length (take i xs)
+pub length_take : {A : Type 0} (xs : List A) (i : ℕ) → i < length xs → i ≡ 0 + length (take i xs)
 length_take [] i h = absurd (omega (arith))
 length_take (x ∷ xs) zero h = refl
 length_take (x ∷ xs) (suc i) h = let rest = length_take xs i (omega (arith)) in omega (arith, rest)

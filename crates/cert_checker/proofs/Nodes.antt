@@ -1,5 +1,5 @@
 -- What local conditions say of one node.
-use Rattle.std.proofs.Common.{◌≡◌, ℕ, ◌-◌, ◌^◌, nat_eq, cond, ◌==◌, ◌&&◌, ◌||◌, Bool, true, false, List, [], ◌∷◌, Option, Some, None, refl, sym, ap, ◌∙◌, slice_get, pos, inl, inr, arith, ◌+ℤ◌, ◌≤ℤ◌}
+use Rattle.std.proofs.Common.{◌≡◌, ℕ, ◌-◌, ◌^◌, nat_eq, cond, ◌==◌, Bool, true, false, List, [], ◌∷◌, Option, Some, None, refl, sym, ap, ◌∙◌, slice_get, inl, inr}
 use Rattle.std.specs.List.{list_all}
 use Rattle.std.proofs.lemmas.Bool.{and_parts}
 use Rattle.std.proofs.lemmas.Bool.Decides.{Decides-eqb}
@@ -9,7 +9,7 @@ use Rattle.num_domain.specs.Domain.{Domain}
 use Rattle.viper_word.specs.Machine.{State}
 use Rattle.viper_word.specs.Options.{bind}
 use Rattle.viper_word.specs.Fields.{fields_of}
-use Rattle.memory_plan.specs.Plans.{PlanLines, is_marker, in_code, word_at}
+use Rattle.memory_plan.specs.Plans.{PlanLines, in_code, word_at}
 use Rattle.flag_relation.specs.Facts.{FactOf}
 use Rattle.abs_step.proofs.FaultLaws.{no_fault_keeps}
 use Rattle.flag_relation.specs.Order.{includes}
@@ -20,8 +20,8 @@ use Rattle.abs_step.specs.Conditions.{unless, keeps, is_some, fault, outcomes}
 use Rattle.abs_step.specs.declared.outcome.Cond.{Cond}
 use Rattle.abs_step.specs.declared.outcome.Cond.TheVariants.{C8, C9, C10, C11}
 use Rattle.cert_format.specs.Certificates.{NodeOf}
-use Rattle.cert_checker.specs.Nodes.{stands_at, pick, successor, are_distinct}
-use Rattle.cert_checker.specs.Conditions.{earlier, known, includes_after, c8, c9, falls_to, c10, c11, flow_fault, node_fault}
+use Rattle.cert_checker.specs.Nodes.{pick, successor}
+use Rattle.cert_checker.specs.Conditions.{earlier, known, includes_after, c8, c9, c10, c11, flow_fault, node_fault}
 
 -- ---- nodes that stand in the list
 

@@ -1,8 +1,8 @@
 -- The node of a number.
-use Rattle.std.proofs.Common.{◌≡◌, ℕ, zero, suc, ◌+◌, ◌<◌, List, [], ◌∷◌, length, slice_get, get_or, drop, Some, refl, arith}
+use Rattle.std.proofs.Common.{◌≡◌, ℕ, zero, suc, ◌<◌, List, [], ◌∷◌, ◌++◌, length, slice_get, get_or, drop, Some, refl, arith}
 use Rattle.std.proofs.lemmas.Option.{slice_get-get_or}
 use Rattle.std.specs.List.{AllByRecursion}
-use Rattle.cert_format.specs.Certificates.{NodeOf, CertificateOf, node_at, no_node}
+use Rattle.cert_format.specs.Certificates.{CertificateOf, node_at, no_node}
 
 -- a node of the list is there
 pub node_there : {T : Type 0} (c : CertificateOf T) (j : ℕ) → j < length c.nodes → slice_get c.nodes j ≡ Some (node_at c j)
@@ -25,3 +25,12 @@ drop_end [] zero h = refl
 drop_end [] (suc i) h = refl
 drop_end (x ∷ xs) zero h = absurd (omega (arith, h))
 drop_end (x ∷ xs) (suc i) h = drop_end xs i (omega (arith, h))
+
+-- what holds of each of a list and of one more
+pub all_push : {A : Type 0} (P : A → Type 0) (xs : List A) (x : A) → AllByRecursion P xs → P x → AllByRecursion P (xs ++ x ∷ [])
+all_push P [] x h p = (p, tt)
+all_push P (y ∷ xs) x h p = (h.0, all_push P xs x h.1 p)
+
+pub all_parts : {A : Type 0} (P : A → Type 0) (xs : List A) (x : A) → AllByRecursion P (xs ++ x ∷ []) → AllByRecursion P xs × P x
+all_parts P [] x h = (tt, h.0)
+all_parts P (y ∷ xs) x h = let more = all_parts P xs x h.1 in ((h.0, more.0), more.1)

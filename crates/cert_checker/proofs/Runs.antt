@@ -1,5 +1,5 @@
 -- Whole runs: each state is at a node, and ranks fall until a marker is met.
-use Rattle.std.proofs.Common.{◌≡◌, ℕ, zero, suc, ◌+◌, ◌<◌, ◌≤◌, ◌==◌, ◌&&◌, not, List, [], ◌∷◌, Option, Some, None, refl, sym, ◌∙◌, ap, subst, length, arith, Bool, true, false, slice_get, slice_index, inl, inr, ℤ, pos, negsuc, ◌+ℤ◌, ◌≤ℤ◌, add-one, max, unsigned_abs, map, if◌then◌else◌}
+use Rattle.std.proofs.Common.{◌≡◌, ℕ, zero, suc, ◌+◌, ◌<◌, ◌≤◌, ◌==◌, ◌&&◌, not, List, [], ◌∷◌, Option, Some, None, refl, sym, ◌∙◌, subst, length, arith, Bool, true, false, slice_get, slice_index, inl, inr, ℤ, pos, negsuc, ◌+ℤ◌, ◌≤ℤ◌, add-one, max, unsigned_abs, map, if◌then◌else◌}
 use Rattle.std.specs.List.{AllByRecursion}
 use Rattle.std.proofs.lemmas.Bool.{cases_Bool}
 use Rattle.std.proofs.lemmas.Bool.Decides.{Decides-eqb}
@@ -9,7 +9,7 @@ use Rattle.std.proofs.lemmas.Option.{none-some, same_Some, slice_get_within}
 use Rattle.viper_word.proofs.Lists.{one_before, within_has}
 use Rattle.viper_word.specs.Machine.{State, next}
 use Rattle.num_domain.specs.Domain.{Domain}
-use Rattle.memory_plan.specs.Plans.{PlanLines, IsStart, is_marker, in_code}
+use Rattle.memory_plan.specs.Plans.{PlanLines, is_marker}
 use Rattle.memory_plan.specs.Runs.{IsRun, IsFair, MeetsMarker, AllSafe}
 use Rattle.memory_plan.specs.WellFormed.{IsWellFormed}
 use Rattle.flag_relation.specs.Laws.{FactLaws}
@@ -22,10 +22,10 @@ use Rattle.abs_step.specs.StepLaws.{StepLaws, Ascend}
 use Rattle.cert_format.specs.Certificates.{NodeOf, CertificateOf}
 use Rattle.cert_checker.specs.Conditions.{known, LocalOfFull}
 use Rattle.cert_checker.specs.Verdicts.{raised, bound_at, bounds_of}
-use Rattle.cert_checker.specs.Claims.{price_of, spent, NoMarker, IsBound, Claimed, Holds, rank_in, IsAt, GoesOn, Suffices}
+use Rattle.cert_checker.specs.Claims.{price_of, spent, NoMarker, Claimed, rank_in, IsAt, GoesOn, Suffices}
 use Rattle.cert_checker.specs.declared.verdict.Bound.{Bound}
 use Rattle.cert_checker.specs.declared.verdict.Bound.TheVariants.{Within, Unreached}
-use Rattle.cert_checker.proofs.Nodes.{Stands, Keeps, keeps_in_code}
+use Rattle.cert_checker.proofs.Nodes.{keeps_in_code}
 use Rattle.cert_checker.proofs.Steps.{keeps, carried}
 
 -- ---- bounds

@@ -1,6 +1,5 @@
 -- Local conditions carry facts and ranks over one step.
-use Rattle.std.proofs.Common.{◌≡◌, ℕ, ◌+◌, ◌-◌, ◌^◌, ◌≤◌, ◌==◌, ◌&&◌, ◌||◌, Bool, true, false, not, List, [], ◌∷◌, Option, Some, None, refl, sym, ap, subst, ◌∙◌, slice_get, get_or, ℤ, pos, neg_ℤ, int_le, inl, inr, arith, ◌+ℤ◌, ◌-ℤ◌, ◌≤ℤ◌}
-use Rattle.std.specs.Prelude.{All}
+use Rattle.std.proofs.Common.{◌≡◌, ℕ, ◌==◌, ◌&&◌, ◌||◌, Bool, true, false, List, [], ◌∷◌, Option, Some, None, refl, sym, subst, ◌∙◌, slice_get, get_or, ℤ, pos, neg_ℤ, int_le, inl, inr, arith, ◌+ℤ◌, ◌-ℤ◌, ◌≤ℤ◌}
 use Rattle.std.specs.List.{list_any, list_all}
 use Rattle.std.proofs.lemmas.Bool.{and_parts, or_cases}
 use Rattle.std.proofs.lemmas.Bool.Decides.{Decides-eqb}
@@ -9,25 +8,24 @@ use Rattle.std.proofs.lemmas.Option.{slice_get_within, get_or_from_slice_get}
 use Rattle.num_domain.specs.Domain.{Domain}
 use Rattle.viper_word.specs.Machine.{State, next}
 use Rattle.memory_plan.specs.Plans.{PlanLines, IsStart, is_marker}
-use Rattle.memory_plan.specs.Runs.{IsFair, IsTidy}
+use Rattle.memory_plan.specs.Runs.{IsFair}
 use Rattle.memory_plan.specs.WellFormed.{IsWellFormed}
 use Rattle.memory_plan.specs.declared.start.Start.{Start}
 use Rattle.flag_relation.specs.Laws.{FactLaws}
 use Rattle.flag_relation.specs.Facts.{FactOf}
-use Rattle.flag_relation.specs.Order.{BelowFact, includes}
+use Rattle.flag_relation.specs.Order.{includes}
 use Rattle.rank_form.specs.Weights.{value}
-use Rattle.rank_form.specs.Bounds.{upper, lower, rise}
+use Rattle.rank_form.specs.Bounds.{lower, rise}
 use Rattle.rank_form.specs.Laws.{BoundLaws}
-use Rattle.abs_step.specs.OutcomeLists.{OutcomeOf}
 use Rattle.abs_step.specs.Starts.{start_fact}
 use Rattle.abs_step.specs.States.{MeetsFact, SomeOutcome, numbers_in}
 use Rattle.abs_step.specs.StepLaws.{StepLaws, Ascend}
 use Rattle.abs_step.specs.Conditions.{outcomes}
 use Rattle.cert_format.specs.Certificates.{NodeOf, CertificateOf}
 use Rattle.cert_checker.specs.Nodes.{successor, are_distinct}
-use Rattle.cert_checker.specs.Conditions.{known, covers_start, includes_after, c8, c9, falls_to, c10, node_fault, LocalOfFull}
+use Rattle.cert_checker.specs.Conditions.{known, covers_start, includes_after, c8, c9, falls_to, c10, LocalOfFull}
 use Rattle.cert_checker.specs.Claims.{rank_in, IsAt, GoesOn, IsCarried}
-use Rattle.cert_checker.proofs.Nodes.{Stands, StandsAt, successor_stands, Keeps, node_keeps, Passing, some_passes, Includes, includes_some}
+use Rattle.cert_checker.proofs.Nodes.{Stands, successor_stands, Keeps, node_keeps, some_passes, includes_some}
 
 -- ---- numbers
 

@@ -1,5 +1,6 @@
 -- What the bounds of a yes claim of all runs.
-use Rattle.std.specs.Prelude.{◌≡◌, ℕ, zero, suc, ◌+◌, ◌<◌, ◌≤◌, ℤ, pos, ◌+ℤ◌, ◌≤ℤ◌, Bool, false, List, Option, Some, None, All, slice_get, length}
+use Rattle.std.specs.Prelude.{◌≡◌, ℕ, zero, suc, ◌+◌, ◌<◌, ◌≤◌, ℤ, pos, ◌+ℤ◌, ◌≤ℤ◌, false}
+use Rattle.std.specs.Prelude.{List, Option, Some, None, All, slice_get, length}
 use Rattle.num_domain.specs.Domain.{Domain}
 use Rattle.viper_word.specs.Machine.{State, next}
 use Rattle.memory_plan.specs.Plans.{PlanLines, IsStart, is_marker}
@@ -27,16 +28,19 @@ spent price states k (suc n) = price_of price (slice_get states k) + spent price
 -- none of so many states, from place k on, has P at a marker
 abbrev pub NoMarker : PlanLines → List State → ℕ → ℕ → Type 0
 NoMarker plan states k n =
-    (j : ℕ) (s : State) → k ≤ j → j < k + n → slice_get states j ≡ Some s → is_marker plan s.p ≡ false
+    (j : ℕ) (s : State) → k ≤ j → j < k + n → slice_get states j ≡ Some s
+    → is_marker plan s.p ≡ false
 
--- in every fair run the instructions from the marker on, up to one that leads into a marker, cost at most
--- the bound
+-- in every fair run the instructions from the marker on, up to one that leads into a marker, cost
+-- at most the bound
 abbrev pub AllCostBounded : PlanLines → (ℕ → ℕ) → ℕ → ℕ → Type 0
-AllCostBounded plan price marker bound = (states : List State) (answers : List ℕ) → IsRun plan states answers
-    → (k n : ℕ) (s : State) → slice_get states k ≡ Some s → s.p ≡ marker → k + suc n < length states
-    → NoMarker plan states (k + 1) n → spent price states k (suc n) ≤ bound
+AllCostBounded plan price marker bound = (states : List State) (answers : List ℕ)
+    → IsRun plan states answers → (k n : ℕ) (s : State) → slice_get states k ≡ Some s
+    → s.p ≡ marker → k + suc n < length states → NoMarker plan states (k + 1) n
+    → spent price states k (suc n) ≤ bound
 
--- what is claimed of one marker: from it the next one is met within so many instructions, and at that price
+-- what is claimed of one marker: from it the next one is met within so many instructions, and at
+-- that price
 pub record IsBound (plan : PlanLines) (price : ℕ → ℕ) (marker bound : ℕ) : Type 0 where
   pub count : AllBounded plan marker bound
   pub cost : AllCostBounded plan price marker bound
@@ -57,7 +61,8 @@ module _ {T : Type 0} (d : Domain T) (plan : PlanLines) (price : ℕ → ℕ) (c
   abbrev pub rank_in : NodeOf T → State → ℤ
   rank_in n s = value n.rank (numbers_in c.cells s)
 
-  -- the state is at the node: P is its address, the state meets its fact, and its rank is at least the price
+  -- the state is at the node: P is its address, the state meets its fact, and its rank is at least
+  -- the price
   pub record IsAt (s : State) (n : NodeOf T) : Type 0 where
     pub number : ℕ
     pub there : slice_get c.nodes number ≡ Some n
@@ -65,8 +70,8 @@ module _ {T : Type 0} (d : Domain T) (plan : PlanLines) (price : ℕ → ℕ) (c
     pub meets : MeetsFact d plan c.cells (known d c.cells n) s
     pub rank : pos (price s.p) ≤ℤ rank_in n s
 
-  -- after the state at the node comes one that is at a node too, whose rank is less by the price, unless it
-  -- is at a marker
+  -- after the state at the node comes one that is at a node too, whose rank is less by the price,
+  -- unless it is at a marker
   pub record GoesOn (n : NodeOf T) (s t : State) : Type 0 where
     pub node : NodeOf T
     pub is_at : IsAt t node
@@ -78,8 +83,8 @@ module _ {T : Type 0} (d : Domain T) (plan : PlanLines) (price : ℕ → ℕ) (c
     pub step : (s : State) (answer : ℕ) (n : NodeOf T) → IsAt s n → IsFair plan s answer
         → GoesOn n s (next plan.profile s answer)
 
-  -- Local conditions carry facts and ranks over every run, so every fair run of every length is safe, and
-  -- each marker is bounded, or unreached.
+  -- Local conditions carry facts and ranks over every run, so every fair run of every length is
+  -- safe, and each marker is bounded, or unreached.
   pub record Suffices : Type 0 where
     pub carried : IsCarried
     pub holds : Holds plan price (bounds_of d plan c)

@@ -1,6 +1,8 @@
--- The local conditions of a certificate whose bare nodes were filled: each is read at one cell, one start or
--- one node alone.
-use Rattle.std.specs.Prelude.{◌≡◌, ℕ, ◌-◌, ◌^◌, ℤ, pos, neg_ℤ, int_le, Bool, true, false, not, ◌&&◌, ◌||◌, ◌==◌, if◌then◌else◌, List, [], ◌∷◌, length, Option, Some, None, is_some, All, slice_get}
+-- The local conditions of a certificate whose bare nodes were filled: each is read at one cell, one
+-- start or one node alone.
+use Rattle.std.specs.Prelude.{◌≡◌, ℕ, ◌-◌, ◌^◌, pos, neg_ℤ, int_le, Bool, true, false, not, ◌&&◌}
+use Rattle.std.specs.Prelude.{◌||◌, ◌==◌, if◌then◌else◌, List, length, Option, Some, None}
+use Rattle.std.specs.Prelude.{is_some, All, slice_get}
 use Rattle.std.specs.List.{list_any, list_all}
 use Rattle.num_domain.specs.Domain.{Domain}
 use Rattle.memory_plan.specs.Plans.{PlanLines, range_at, is_marker}
@@ -39,8 +41,8 @@ module _ {T : Type 0} (d : Domain T) (cells : List ℕ) where
   includes_after o None = false
   includes_after o (Some m) = includes d (known m) o.after
 
-  -- C8: the listed nodes stand at distinct addresses, and each outcome has one at its target which includes
-  -- what is known after it
+  -- C8: the listed nodes stand at distinct addresses, and each outcome has one at its target which
+  -- includes what is known after it
   unfoldable pub c8 : List (NodeOf T) → NodeOf T → List (OutcomeOf T) → Bool
   c8 nodes n os = are_distinct nodes n.succ
       && list_all (λ o. includes_after o (successor nodes n.succ o.target)) os
@@ -54,7 +56,8 @@ module _ {T : Type 0} (d : Domain T) (plan : PlanLines) (cells : List ℕ) where
 
   -- H2: some listed start node covers it
   abbrev pub is_start_covered : List (NodeOf T) → List ℕ → Start → Bool
-  is_start_covered nodes starts start = list_any (λ j. covers_start start (slice_get nodes j)) starts
+  is_start_covered nodes starts start =
+      list_any (λ j. covers_start start (slice_get nodes j)) starts
 
   -- C11: at a marker the rank is at most 2^63 - 1
   unfoldable pub c11 : NodeOf T → Bool
@@ -92,7 +95,9 @@ module _ {T : Type 0} (d : Domain T) (plan : PlanLines) (cells : List ℕ) (pric
       (flow_fault nodes n (outcomes d plan cells n.addr (known d cells n)))
 
 -- of a full certificate all local conditions hold: of each cell, each start and each node
-pub record LocalOfFull {T : Type 0} (d : Domain T) (plan : PlanLines) (price : ℕ → ℕ) (c : CertificateOf T) : Type 0 where
+pub record LocalOfFull {T : Type 0} (d : Domain T) (plan : PlanLines) (price : ℕ → ℕ)
+    (c : CertificateOf T) : Type 0 where
   pub cells : All (λ at. is_data plan at ≡ true) c.cells
-  pub starts : All (λ start. is_start_covered d plan c.cells c.nodes c.starts start ≡ true) plan.starts
+  pub starts : All (λ start. is_start_covered d plan c.cells c.nodes c.starts start ≡ true)
+      plan.starts
   pub nodes : All (λ n. node_fault d plan c.cells price c.nodes n ≡ None) c.nodes

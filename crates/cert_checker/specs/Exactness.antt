@@ -4,12 +4,14 @@ use Rattle.num_domain.specs.Domain.{Domain}
 use Rattle.memory_plan.specs.Plans.{PlanLines}
 use Rattle.cert_format.specs.Certificates.{CertificateOf}
 use Rattle.cert_checker.specs.Conditions.{LocalOfFull}
-use Rattle.cert_checker.specs.Verdicts.{cell_refusal, start_refusal, node_refusal, bounds_of, verdict_of}
+use Rattle.cert_checker.specs.Verdicts.{cell_refusal, start_refusal, node_refusal, bounds_of}
+use Rattle.cert_checker.specs.Verdicts.{verdict_of}
 use Rattle.cert_checker.specs.declared.verdict.Bound.{Bound}
 use Rattle.cert_checker.specs.declared.verdict.Refusal.{Refusal}
 
 -- the refusal is that of an element, and none before it is refused
-pub record IsFirst {A : Type 0} (refusal : ℕ → A → Option Refusal) (xs : List A) (r : Refusal) : Type 0 where
+pub record IsFirst {A : Type 0} (refusal : ℕ → A → Option Refusal) (xs : List A) (r : Refusal)
+    : Type 0 where
   pub number : ℕ
   pub element : A
   pub there : slice_get xs number ≡ Some element
@@ -34,4 +36,5 @@ module _ {T : Type 0} (d : Domain T) (plan : PlanLines) (price : ℕ → ℕ) (c
     pub only_where : (bounds : List (ℕ × Bound)) → verdict_of d plan price c ≡ Ok bounds
         → LocalOfFull d plan price c
     pub first : (r : Refusal) → verdict_of d plan price c ≡ Err r → FailsFirst r
-    pub not_where : (r : Refusal) → verdict_of d plan price c ≡ Err r → LocalOfFull d plan price c → ⊥
+    pub not_where : (r : Refusal) → verdict_of d plan price c ≡ Err r
+        → LocalOfFull d plan price c → ⊥

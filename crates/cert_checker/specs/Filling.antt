@@ -1,5 +1,6 @@
 -- A certificate in which each bare node has the fact that follows where it is listed.
-use Rattle.std.specs.Prelude.{ℕ, zero, suc, ◌+◌, Bool, true, false, ◌&&◌, ◌==◌, if◌then◌else◌, List, [], ◌∷◌, ◌++◌, take, length, Option, Some, None}
+use Rattle.std.specs.Prelude.{ℕ, zero, suc, ◌+◌, Bool, true, false, ◌&&◌, ◌==◌, if◌then◌else◌, List}
+use Rattle.std.specs.Prelude.{[], ◌∷◌, ◌++◌, take, length, Option, Some, None}
 use Rattle.std.specs.List.{list_any, list_all}
 use Rattle.num_domain.specs.Domain.{Domain}
 use Rattle.memory_plan.specs.Plans.{PlanLines}
@@ -44,8 +45,8 @@ module _ {T : Type 0} (d : Domain T) where
   joined cells (f ∷ fs) = joined_on f fs
 
 module _ {T : Type 0} (d : Domain T) (plan : PlanLines) (cells : List ℕ) where
-  -- What follows at an address from a fact at another: the join of what arrives there. Nothing is known
-  -- where a condition of the instruction or of a cell fails.
+  -- What follows at an address from a fact at another: the join of what arrives there. Nothing is
+  -- known where a condition of the instruction or of a cell fails.
   unfoldable pub follows : ℕ → FactOf T → ℕ → FactOf T
   follows from f at = (
       if list_all (λ c. is_data plan c) cells && no_fault (fault d plan cells from f)

@@ -8,3 +8,4 @@ pub mod Exactness
 pub mod Filling
 pub mod Claiming
 pub mod Local
+pub mod Packing

@@ -1,5 +1,6 @@
 -- The nodes that a node lists.
-use Rattle.std.specs.Prelude.{ℕ, Bool, true, false, not, ◌&&◌, ◌==◌, if◌then◌else◌, List, [], ◌∷◌, Option, Some, None, slice_get}
+use Rattle.std.specs.Prelude.{ℕ, Bool, true, false, not, ◌&&◌, ◌==◌, if◌then◌else◌, List, [], ◌∷◌}
+use Rattle.std.specs.Prelude.{Option, Some, None, slice_get}
 use Rattle.std.specs.List.{list_any}
 use Rattle.cert_format.specs.Certificates.{NodeOf}
 
@@ -30,4 +31,5 @@ is_repeated nodes (Some n) js = is_listed_at nodes js n.addr
 -- the listed nodes stand at distinct addresses
 abbrev pub are_distinct : {T : Type 0} → List (NodeOf T) → List ℕ → Bool
 are_distinct nodes [] = true
-are_distinct nodes (j ∷ js) = not (is_repeated nodes (slice_get nodes j) js) && are_distinct nodes js
+are_distinct nodes (j ∷ js) =
+    not (is_repeated nodes (slice_get nodes j) js) && are_distinct nodes js

@@ -4,7 +4,7 @@ use Rattle.std.specs.List.{AllByRecursion}
 use Rattle.num_domain.specs.Domain.{Domain}
 use Rattle.flag_relation.specs.Emptiness.{is_empty}
 use Rattle.rank_form.specs.Bounds.{upper}
-use Rattle.cert_format.specs.Certificates.{NodeOf, CertificateOf}
+use Rattle.cert_format.specs.Certificates.{NodeOf}
 use Rattle.cert_checker.specs.Conditions.{known}
 
 module _ {T : Type 0} (d : Domain T) (cells : List ℕ) where

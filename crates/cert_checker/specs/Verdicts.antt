@@ -1,10 +1,10 @@
--- What the checker answers of a certificate whose bare nodes were filled: the first failure, or a bound for
--- each marker.
-use Rattle.std.specs.Prelude.{ℕ, ◌+◌, Bool, not, ◌&&◌, option_map, List, [], ◌∷◌, map, max, Option, Some, None, Result, Ok, Err, unsigned_abs, ◌==◌, if◌then◌else◌}
+-- What the checker answers of a certificate whose bare nodes were filled: the first failure, or a
+-- bound for each marker.
+use Rattle.std.specs.Prelude.{ℕ, ◌+◌, Bool, not, ◌&&◌, option_map, List, [], ◌∷◌, map, max, Option}
+use Rattle.std.specs.Prelude.{Some, None, Result, Ok, Err, unsigned_abs, ◌==◌, if◌then◌else◌}
 use Rattle.num_domain.specs.Domain.{Domain}
 use Rattle.memory_plan.specs.Plans.{PlanLines}
 use Rattle.memory_plan.specs.declared.start.Start.{Start}
-use Rattle.abs_step.specs.declared.outcome.Cond.{Cond}
 use Rattle.abs_step.specs.declared.outcome.Cond.TheVariants.{H1, H2}
 use Rattle.flag_relation.specs.Emptiness.{is_empty}
 use Rattle.rank_form.specs.Bounds.{upper}
@@ -33,7 +33,8 @@ first_of refusal k (x ∷ xs) = or_else (refusal k x) (first_of refusal (k + 1) 
 
 -- a cell that is no word of data
 abbrev pub cell_refusal : PlanLines → ℕ → ℕ → Option Refusal
-cell_refusal plan k c = refuse (is_data plan c) (record { place = place.Cell k; addr = c; cond = H1 })
+cell_refusal plan k c =
+    refuse (is_data plan c) (record { place = place.Cell k; addr = c; cond = H1 })
 
 module _ {T : Type 0} (d : Domain T) (plan : PlanLines) (c : CertificateOf T) where
   -- a start that no listed node covers
@@ -60,12 +61,13 @@ raised rank (Within bound) = Within (max rank bound)
 
 module _ {T : Type 0} (d : Domain T) where
   -- The greatest upper bound of the ranks of the nodes at an address whose facts aren't empty, and
-  -- Unreached where none stands there. Where all conditions hold each is at least 1, and so its size is
-  -- the bound itself.
+  -- Unreached where none stands there. Where all conditions hold each is at least 1, and so its
+  -- size is the bound itself.
   abbrev pub bound_at : List ℕ → ℕ → List (NodeOf T) → Bound
   bound_at cells at [] = Unreached
   bound_at cells at (n ∷ ns) = (
-      if n.addr == at && not (is_empty d (known d cells n)) then raised (unsigned_abs (upper d n.rank (known d cells n))) (bound_at cells at ns)
+      if n.addr == at && not (is_empty d (known d cells n))
+      then raised (unsigned_abs (upper d n.rank (known d cells n))) (bound_at cells at ns)
       else bound_at cells at ns)
 
   -- each marker with its bound, in the plan's order
@@ -77,7 +79,8 @@ verdict_from bounds None = Ok bounds
 verdict_from bounds (Some r) = Err r
 
 -- what is to be answered
-unfoldable pub verdict_of : {T : Type 0} → Domain T → PlanLines → (ℕ → ℕ) → CertificateOf T → Result (List (ℕ × Bound)) Refusal
+unfoldable pub verdict_of : {T : Type 0} → Domain T → PlanLines → (ℕ → ℕ) → CertificateOf T
+    → Result (List (ℕ × Bound)) Refusal
 verdict_of d plan price c = verdict_from (bounds_of d plan c) (first_failure d plan price c)
 
 -- what the checker's answer says

@@ -7,7 +7,8 @@ ghost use Rattle.cert_format.specs.Certificates.{node_at};
 ghost use Rattle.cert_format.specs.Limits.{IsBelow};
 ghost use Rattle.cert_checker.specs.Judged.{IsJudged};
 ghost use Rattle.cert_checker.specs.Conditions.{is_data, covers_start, is_start_covered};
-ghost use Rattle.cert_checker.specs.Verdicts.{first_of, cell_refusal, start_refusal, node_refusal, first_failure};
+ghost use Rattle.cert_checker.specs.Verdicts.{first_of, cell_refusal, start_refusal, node_refusal};
+ghost use Rattle.cert_checker.specs.Verdicts.{first_failure};
 
 use crate::node::node_fault;
 use crate::reading::known;

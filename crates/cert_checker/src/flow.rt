@@ -7,7 +7,8 @@ ghost use Rattle.abs_step.specs.Places.{HasCells, AllHaveCells};
 ghost use Rattle.cert_format.specs.Certificates.{node_at};
 ghost use Rattle.cert_checker.specs.Judged.{IsJudged};
 ghost use Rattle.cert_checker.specs.Nodes.{successor};
-ghost use Rattle.cert_checker.specs.Conditions.{includes_after, c8, c9, falls_to, c10, c11, flow_fault};
+ghost use Rattle.cert_checker.specs.Conditions.{includes_after, c8, c9, falls_to, c10, c11};
+ghost use Rattle.cert_checker.specs.Conditions.{flow_fault};
 
 use crate::reading::{known, listed};
 use crate::successors::{are_distinct, successor};
@@ -106,7 +107,8 @@ fn fits<D: Spelled>(plan: &Plan, cert: &CertOf<D>, i: u32) -> bool
     !plan.is_marker(cert.addr(i)) || upper(cert.rank(i), known(cert, i)) <= MOST_BOUND
 }
 
-/// The first of C8 to C11 that fails at the node, whose outcomes these are. All hold of an empty fact.
+/// The first of C8 to C11 that fails at the node, whose outcomes these are. All hold of an empty
+/// fact.
 #[tactic(auto, unfolding(crate::specs::Conditions::c8, crate::specs::Conditions::c9, crate::specs::Conditions::c10, crate::specs::Conditions::flow_fault))]
 pub(crate) fn flow_fault<D: Spelled>(
     plan: &Plan,

@@ -42,7 +42,7 @@ fn join_arrivals<D: NumDomain>(at: Addr, outs: &[Outcome<D>], fact: &mut Fact<D>
 
 /// Makes the fact the join of what is known after the outcomes that lead to the address, and `top`
 /// where there is none.
-fn arrive<D: NumDomain>(
+pub(crate) fn arrive<D: NumDomain>(
     cells: &[Addr],
     at: Addr,
     outs: &[Outcome<D>],

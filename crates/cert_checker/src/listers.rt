@@ -1,9 +1,10 @@
 //! For each node the first that lists it.
 
-ghost use Rattle.std.specs.Prelude.{◌≡◌, length, replicate, None, IfOk};
+ghost use Rattle.std.specs.Prelude.{◌≡◌, ◌<◌, length, replicate, take, None, IfOk, IfSome};
 ghost use Rattle.std.specs.List.{AllByRecursion};
 ghost use Rattle.cert_format.specs.Limits.{IsBelow, IsWithinLimits};
-ghost use Rattle.cert_checker.specs.Claiming.{or_first, claimed_all, AreListers};
+ghost use Rattle.cert_checker.specs.Claiming.{or_first, claimed_all, before, AreListers};
+ghost use Rattle.cert_checker.specs.Filling.{lister};
 
 use cert_format::{CertOf, Spelled};
 use std::alloc::Global;
@@ -50,7 +51,8 @@ fn unlisted(alloc: Global, count: u32) -> Result<Vec<Option<u32>>, Memory>
     Ok(listers)
 }
 
-/// Lets each node be the lister of those that it lists and that have none yet. At first none has one.
+/// Lets each node be the lister of those that it lists and that have none yet. At first none has
+/// one.
 fn claim_all<D: Spelled>(cert: &CertOf<D>, listers: &mut [Option<u32>])
     requires limits { IsWithinLimits cert.now }
     requires none { listers.old ≡ replicate (length cert.now.nodes) None }
@@ -72,4 +74,28 @@ pub(crate) fn listers<D: Spelled>(
     let mut listers = unlisted(alloc, cert.len())?;
     claim_all(cert, listers.as_mut_slice());
     Ok(listers)
+}
+
+/// The lister, if it stands before the node of that number.
+fn before(number: u32, lister: Option<u32>) -> Option<u32>
+    ensures { result ≡ before number lister }
+{
+    match lister {
+        None => None,
+        Some(first) => { if first < number { Some(first) } else { None } }
+    }
+}
+
+/// The first of the nodes before the node of that number that lists it.
+pub(crate) fn first_before<D: Spelled>(
+    cert: &CertOf<D>,
+    listers: &[Option<u32>],
+    i: u32,
+) -> Option<u32>
+    requires listers { AreListers (length cert.now.nodes) cert.now.nodes listers.now }
+    requires node { i < length cert.now.nodes }
+    ensures first { result ≡ lister i 0 (take i cert.now.nodes) }
+    ensures before { IfSome result (λ j. j < i) }
+{
+    before(i, listers[i as usize])
 }

@@ -12,8 +12,8 @@ use cert_format::{CertOf, Spelled};
 use memory_plan::Plan;
 
 /// The first of C1 to C11 that fails at the node of that number; None exactly where all hold. The
-/// certificate is within its limits and has no bare node; `scratch` is room for as many cells. Takes
-/// no memory. docs/METHOD.md, "The whole checker".
+/// certificate is within its limits and has no bare node; `scratch` is room for as many cells.
+/// Takes no memory. docs/METHOD.md, "The whole checker".
 pub fn check_node<D: Spelled>(
     plan: &Plan,
     cert: &CertOf<D>,

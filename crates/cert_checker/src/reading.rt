@@ -4,7 +4,7 @@ ghost use Rattle.std.specs.Prelude.{◌≡◌, ◌<◌, length};
 ghost use Rattle.std.specs.List.{AllByRecursion};
 ghost use Rattle.cert_format.specs.Certificates.{node_at};
 ghost use Rattle.cert_format.specs.Limits.{IsBelow};
-ghost use Rattle.cert_checker.specs.Judged.{IsJudged};
+ghost use Rattle.cert_checker.specs.Judged.{IsFull, IsJudged};
 ghost use Rattle.cert_checker.specs.Conditions.{known};
 
 use cert_format::{CertOf, Spelled};
@@ -17,6 +17,17 @@ pub(crate) fn known<D: Spelled>(cert: &CertOf<D>, i: u32) -> &Fact<D>
     ensures fact { result.now ≡ known D.domain cert.now.cells (node_at cert.now i) }
     ensures cells { length result.now.cells ≡ length cert.now.cells }
 {
+    cert.fact(i)
+}
+
+/// What is known at a node of a certificate without bare nodes.
+pub(crate) fn full_fact<D: Spelled>(cert: &CertOf<D>, i: u32) -> &Fact<D>
+    requires full { AllByRecursion IsFull cert.now.nodes }
+    requires node { i < length cert.now.nodes }
+    ensures fact { result.now ≡ known D.domain cert.now.cells (node_at cert.now i) }
+    ensures cells { length result.now.cells ≡ length cert.now.cells }
+{
+    cert.len();
     cert.fact(i)
 }
 

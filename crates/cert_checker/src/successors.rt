@@ -4,7 +4,8 @@ ghost use Rattle.std.specs.Prelude.{◌≡◌, ◌<◌, length, option_map, slic
 ghost use Rattle.std.specs.List.{AllByRecursion};
 ghost use Rattle.cert_format.specs.Certificates.{node_at};
 ghost use Rattle.cert_format.specs.Limits.{IsBelow};
-ghost use Rattle.cert_checker.specs.Nodes.{stands_at, successor, is_listed_at, is_repeated, are_distinct};
+ghost use Rattle.cert_checker.specs.Nodes.{stands_at, successor, is_listed_at, is_repeated};
+ghost use Rattle.cert_checker.specs.Nodes.{are_distinct};
 
 use cert_format::{CertOf, Spelled};
 use viper_word::Addr;

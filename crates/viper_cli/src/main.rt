@@ -2,6 +2,10 @@
 #![tactic(auto)]
 
 #[cfg(test)]
+mod certificates;
+#[cfg(test)]
+mod check_tests;
+#[cfg(test)]
 mod run_tests;
 #[cfg(test)]
 mod source_tests;

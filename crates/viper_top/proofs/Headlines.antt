@@ -2,18 +2,18 @@
 use Rattle.std.proofs.Common.{◌≡◌, ◌≢◌, ℕ, ◌<◌, List, [], ◌∷◌, ◌++◌, length, refl, sym, ap, subst, ◌∙◌, arith, Option, Some, None, Result, Ok, Err, inl, inr}
 use Rattle.std.specs.Prelude.{IsSomeAnd}
 use Rattle.std.proofs.lemmas.Option.{same_Some}
-use Rattle.memory_plan.specs.Plans.{PlanLines, word_at}
-use Rattle.memory_plan.specs.FirstForms.{IsFirstImage, IsFirstPlan}
-use Rattle.memory_plan.proofs.ImageWords.{word_placed}
-use Rattle.memory_plan.proofs.RunsExist.{first_runs}
+use Rattle.memory_plan.specs.Plans.{PlanLines}
+use Rattle.memory_plan.specs.Images.{ImageWords, IsImage}
+use Rattle.memory_plan.specs.PlanText.{IsPlan}
+use Rattle.memory_plan.proofs.OneValue.{image_reading, plan_reading}
 use Rattle.viper_io.specs.Causes.{Stock, Output, Handed, Wrote}
 use Rattle.viper_top.specs.declared.status.Status.{Status}
 use Rattle.viper_top.specs.declared.status.Status.TheVariants.{Done, Refused, Input}
-use Rattle.viper_top.specs.declared.cert_checker.Bound.{Bound}
-use Rattle.viper_top.specs.declared.cert_checker.Refusal.{Refusal}
-use Rattle.viper_top.specs.Certificates.{Certificate}
-use Rattle.viper_top.specs.Verdicts.{verdict_of}
-use Rattle.viper_top.specs.Claims.{OnlyReads}
+use Rattle.cert_checker.specs.declared.verdict.Bound.{Bound}
+use Rattle.cert_checker.specs.declared.verdict.Refusal.{Refusal}
+use Rattle.cert_checker.proofs.Exact.{exact}
+use Rattle.val_dom.specs.Vals.{vals}
+use Rattle.viper_top.specs.Certificates.{Certificate, IsCertificate, verdict_of, bounds_of, full, once}
 use Rattle.viper_top.specs.Texts.{yes_text, no_text}
 use Rattle.viper_top.specs.Endings.{Ending}
 use Rattle.viper_top.specs.Orders.{Check}
@@ -23,11 +23,8 @@ use Rattle.viper_top.specs.Check.{verdict_ending, checked}
 use Rattle.viper_top.specs.Commands.{Task, Checks, Ends, over_plan, with_cert}
 use Rattle.viper_top.specs.Promises.{Given, Answered, Leads, Settled}
 use Rattle.viper_top.specs.Headlines.{handed_as, AreRead, Verified, Declined, IsGiven, AreGiven, EndsAs}
-use Rattle.viper_top.proofs.WholeRuns.{local_suffices}
-use Rattle.viper_top.proofs.Yes.{yes_local}
-use Rattle.viper_top.proofs.FirstFailure.{fails_first}
-use Rattle.viper_top.proofs.Exact.{refusal_first, refusal_fails}
-use Rattle.viper_top.proofs.Unique.{image_unique, image_few, plan_unique, cert_unique}
+use Rattle.viper_top.proofs.OneCertificate.{certificate_reading}
+use Rattle.viper_top.proofs.Runs.{plan_is_well, plan_can_run, cells_ascend, local_holds}
 use Rattle.viper_top.proofs.Apart.{took_one, does_only}
 
 -- a status that is not Input
@@ -40,22 +37,22 @@ done_fine e = cc
 refused_fine : Refused ≢ Input
 refused_fine e = cc
 
--- ---- check: what was read
+-- ---- a certificate over its plan
 
--- the three contents of a check, and how it then ends
-record CheckRead (image plan cert : List ℕ) (s0 s1 : Stock) (e : Ending) : Type 0 where
-  lines : PlanLines
-  certificate : Certificate
-  read : AreRead image plan cert s0 s1 lines certificate
-  ends : e ≡ checked lines certificate
+-- the three contents of a command that reads a certificate, and how it then ends
+pub record CertRead (task : PlanLines → Certificate → Task) (image plan cert : List ℕ) (s0 s1 : Stock) (e : Ending) : Type 0 where
+  pub lines : PlanLines
+  pub certificate : Certificate
+  pub read : AreRead image plan cert s0 s1 lines certificate
+  pub ends : Ends (task lines certificate) e
 
-check_read : (image plan cert : List ℕ) (s0 s1 : Stock) (given : List Handed) (e : Ending) → Given s0 s1 given → (e.status ≡ Input → ⊥) → Walks Ends (over_plan image plan (with_cert Checks cert)) given e
-    → CheckRead image plan cert s0 s1 e
-check_read image plan cert s0 s1 given e g fine walks =
-    let i = took_one s0 s1 Image image (λ words. Reads (Plan words) plan (with_cert Checks cert)) given e g.each fine walks in
-    let p = took_one s0 s1 (Plan i.value) plan (with_cert Checks cert) i.others e i.each fine i.goes_on in
-    let c = took_one s0 s1 Cert cert (λ c. Does (Checks p.value c)) p.others e p.each fine p.goes_on in
-    let d = does_only (Checks p.value c.value) c.others e c.goes_on in
+pub cert_read : (task : PlanLines → Certificate → Task) (image plan cert : List ℕ) (s0 s1 : Stock) (given : List Handed) (e : Ending) → Given s0 s1 given → (e.status ≡ Input → ⊥) → Walks Ends (over_plan image plan (with_cert task cert)) given e
+    → CertRead task image plan cert s0 s1 e
+cert_read task image plan cert s0 s1 given e g fine walks =
+    let i = took_one s0 s1 Image image (λ words. Reads (Plan words) plan (with_cert task cert)) given e g.each fine walks in
+    let p = took_one s0 s1 (Plan i.value) plan (with_cert task cert) i.others e i.each fine i.goes_on in
+    let c = took_one s0 s1 Cert cert (λ c. Does (task p.value c)) p.others e p.each fine p.goes_on in
+    let d = does_only (task p.value c.value) c.others e c.goes_on in
     let only_cert : p.others ≡ handed_as Cert cert c.bytes ∷ [] = c.is ∙ ap (λ hs. handed_as Cert cert c.bytes ∷ hs) d.0 in
     let only_plan : i.others ≡ handed_as (Plan i.value) plan p.bytes ∷ handed_as Cert cert c.bytes ∷ [] = p.is ∙ ap (λ hs. handed_as (Plan i.value) plan p.bytes ∷ hs) only_cert in
     record {
@@ -79,12 +76,6 @@ check_read image plan cert s0 s1 given e g fine walks =
 
 -- ---- check, Done
 
--- an image's words are literal reads
-only_reads : (text : List ℕ) (image : List (ℕ × ℕ)) (plan_text : List ℕ) (plan : PlanLines) → IsFirstImage text image → IsFirstPlan image plan_text plan → OnlyReads plan
-only_reads text image plan_text plan is planned = record {
-  reads = λ at w h. (word_placed image at w is.plain (ap (λ (p : PlanLines). word_at p.image at) (sym planned.is) ∙ h)).1;
-}
-
 record IsYes (plan : PlanLines) (c : Certificate) (e : Ending) : Type 0 where
   bounds : List (ℕ × Bound)
   verdict : verdict_of plan c ≡ Ok bounds
@@ -100,17 +91,21 @@ yes_of plan c e is h = subst (IsYes plan c) (sym is) (yes_with plan c (verdict_o
 
 pub verified : (image plan cert : List ℕ) (s0 s1 : Stock) (out0 out1 : Output) → Answered (Check image plan cert) s0 s1 Done out0 out1 → Verified image plan cert s0 s1 out0 out1
 verified image plan cert s0 s1 out0 out1 a =
-    let r = check_read image plan cert s0 s1 a.given a.ending a.is_given (not_input Done a.ending a.status done_fine) a.walks in
+    let r = cert_read Checks image plan cert s0 s1 a.given a.ending a.is_given (not_input Done a.ending a.status done_fine) a.walks in
     let yes = yes_of r.lines r.certificate a.ending r.ends a.status in
-    let local = yes_local r.lines r.certificate yes.bounds yes.verdict in
+    let judged = exact vals r.lines once (full r.lines r.certificate) in
+    let local = judged.only_where yes.bounds yes.verdict in
+    let same : Ok yes.bounds ≡ Ok (bounds_of r.lines r.certificate) = sym yes.verdict ∙ judged.yes local in
+    let bounds : yes.bounds ≡ bounds_of r.lines r.certificate = cc same in
+    let well = plan_is_well r.read.image_bytes r.read.words r.read.plan_bytes r.lines r.read.image_is r.read.plan_is in
     record {
       lines = r.lines;
       certificate = r.certificate;
       read = r.read;
-      local = local.0;
-      runs = local_suffices r.lines r.certificate (only_reads r.read.image_bytes r.read.words r.read.plan_bytes r.lines r.read.image_is r.read.plan_is) local.0;
-      can_run = first_runs r.read.words r.read.plan_bytes r.lines r.read.image_is.plain r.read.plan_is;
-      put = subst (λ t. Wrote out0.text t out1.text) (yes.text ∙ ap yes_text (sym local.1)) a.put;
+      local = local;
+      runs = local_holds r.lines r.certificate well (cells_ascend r.read.cert_bytes r.certificate r.read.cert_is) local;
+      can_run = plan_can_run r.read.words r.read.plan_bytes r.lines well r.read.plan_is;
+      put = subst (λ t. Wrote out0.text t out1.text) (yes.text ∙ ap yes_text bounds) a.put;
     }
 
 -- ---- check, Refused
@@ -130,15 +125,16 @@ no_of plan c e is h = subst (IsNo plan c) (sym is) (no_with plan c (verdict_of p
 
 pub declined : (image plan cert : List ℕ) (s0 s1 : Stock) (out0 out1 : Output) → Answered (Check image plan cert) s0 s1 Refused out0 out1 → Declined image plan cert s0 s1 out0 out1
 declined image plan cert s0 s1 out0 out1 a =
-    let r = check_read image plan cert s0 s1 a.given a.ending a.is_given (not_input Refused a.ending a.status refused_fine) a.walks in
+    let r = cert_read Checks image plan cert s0 s1 a.given a.ending a.is_given (not_input Refused a.ending a.status refused_fine) a.walks in
     let no = no_of r.lines r.certificate a.ending r.ends a.status in
+    let judged = exact vals r.lines once (full r.lines r.certificate) in
     record {
       lines = r.lines;
       certificate = r.certificate;
       read = r.read;
       refusal = no.refusal;
-      first = fails_first r.lines r.certificate no.refusal (refusal_first r.lines r.certificate no.refusal no.verdict);
-      fails = refusal_fails r.lines r.certificate no.refusal no.verdict;
+      first = judged.first no.refusal no.verdict;
+      fails = judged.not_where no.refusal no.verdict;
       put = subst (λ t. Wrote out0.text t out1.text) no.text a.put;
     }
 
@@ -165,17 +161,20 @@ leads_given stock kind name value next e g only (Some bytes, content, inr v) =
 check_leads : (image plan cert : List ℕ) (stock : Stock) (lines : PlanLines) (certificate : Certificate) (e : Ending) → AreGiven image plan cert stock lines certificate
     → Leads stock.holds (over_plan image plan (with_cert Checks cert)) e → e ≡ checked lines certificate
 check_leads image plan cert stock lines certificate e g leads =
+    let one_image = image_reading g.image_given.bytes in
     let over = leads_given stock Image image g.words (λ words. Reads (Plan words) plan (with_cert Checks cert)) e g.image_given (record {
-      only = λ w is. image_unique g.image_given.bytes w g.words is g.image_given.is;
-      sound = λ fault none. none.none g.words g.image_given.is;
+      only = λ w is. one_image.value w g.words is g.image_given.is;
+      sound = λ fault. one_image.no_fault g.words fault.line fault.rule g.image_given.is;
     }) leads in
+    let one_plan = plan_reading g.words g.plan_given.bytes in
     let judged = leads_given stock (Plan g.words) plan lines (with_cert Checks cert) e g.plan_given (record {
-      only = λ p is. plan_unique g.words g.plan_given.bytes p lines (image_few g.image_given.bytes g.words g.image_given.is) is g.plan_given.is;
-      sound = λ fault none. none.none lines g.plan_given.is;
+      only = λ p is. one_plan.value p lines is g.plan_given.is;
+      sound = λ fault. one_plan.no_fault lines fault.line fault.rule g.plan_given.is;
     }) over in
+    let one_cert = certificate_reading g.cert_given.bytes in
     leads_given stock Cert cert certificate (λ c. Does (Checks lines c)) e g.cert_given (record {
-      only = λ c is. cert_unique g.cert_given.bytes c certificate is g.cert_given.is;
-      sound = λ fault none. none.none certificate g.cert_given.is;
+      only = λ c is. one_cert.value c certificate is g.cert_given.is;
+      sound = λ fault. one_cert.no_fault certificate fault g.cert_given.is;
     }) judged
 
 pub ends_as : (image plan cert : List ℕ) (stock now : Stock) (lines : PlanLines) (certificate : Certificate) (ends : Status) (out0 out1 : Output) → AreGiven image plan cert stock lines certificate

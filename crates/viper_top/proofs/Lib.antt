@@ -1,15 +1,4 @@
-pub mod CertFields
-pub mod CertLaws
-pub mod CertLoop
-pub mod Bounds
-pub mod ReadSteps
-pub mod Nodes
-pub mod Steps
-pub mod WholeRuns
-pub mod Yes
-pub mod FirstFailure
-pub mod Exact
-pub mod Unique
+pub mod Runs
 pub mod Growth
 pub mod Walking
 pub mod Outcomes
@@ -17,4 +6,6 @@ pub mod Apart
 pub mod Headlines
 pub mod RunHeadline
 pub mod TextHeadlines
+pub mod OneCertificate
 pub mod OneEnding
+pub mod UpgradeHeadline

@@ -7,12 +7,12 @@ use Rattle.memory_plan.proofs.OneValue.{image_reading, plan_reading}
 use Rattle.field_asm.proofs.OneSource.{source_reading}
 use Rattle.peripheral_run.proofs.OneScript.{script_reading}
 use Rattle.viper_top.specs.Endings.{Ending, input}
-use Rattle.viper_top.specs.Orders.{Order, Check, Run, Assemble, Disasm}
-use Rattle.viper_top.specs.Contents.{Kind, Image, Plan, Cert, WholeImage, WholePlan, Script, Source, Value, Fault, AtLine, limit_of, Spells, Breaks, image_rule, plan_rule, script_rule, source_rule, line_text, fault_text}
+use Rattle.viper_top.specs.Orders.{Order, Check, Run, Upgrade, Assemble, Disasm}
+use Rattle.viper_top.specs.Contents.{Kind, Image, Plan, Cert, Script, Source, Value, Fault, AtLine, AtByte, limit_of, Spells, Breaks, image_rule, plan_rule, cert_rule, script_rule, source_rule, line_text, offset_text, fault_text}
 use Rattle.viper_top.specs.Works.{Work, Does, Reads, Comes}
-use Rattle.viper_top.specs.Commands.{Task, Checks, Runs, Assembles, Lists, with_cert, with_plan, with_script}
+use Rattle.viper_top.specs.Commands.{Task, Checks, Upgrades, Runs, Assembles, Lists, over_plan, with_cert, with_script}
 use Rattle.viper_top.specs.Promises.{IsContent, Leads, HasOneEnding}
-use Rattle.viper_top.proofs.Unique.{image_unique, image_few, plan_unique, cert_unique}
+use Rattle.viper_top.proofs.OneCertificate.{certificate_reading}
 
 -- a name has one content under a limit
 too_long : (limit : ℕ) (content : Option (List ℕ)) (bytes : List ℕ) → IsContent limit content None → IsContent limit content (Some bytes) → ⊥
@@ -52,22 +52,13 @@ after_one holds kind name next e f once rest (c, is_c, comes_c) (d, is_d, comes_
 
 -- ---- the kinds
 
-image_once : (bytes : List ℕ) → IsReadOnce Image bytes
-image_once bytes = record { value = image_unique bytes; apart = λ v fault is none. none.none v is; text = λ fault other a b. refl }
-
-plan_once : (image : ImageWords) (bytes : List ℕ) → length image ≤ 256 → IsReadOnce (Plan image) bytes
-plan_once image bytes few = record { value = λ v w. plan_unique image bytes v w few; apart = λ v fault is none. none.none v is; text = λ fault other a b. refl }
-
-cert_once : (bytes : List ℕ) → IsReadOnce Cert bytes
-cert_once bytes = record { value = cert_unique bytes; apart = λ v fault is none. none.none v is; text = λ fault other a b. refl }
-
 -- the text of a fault at a line
 same_line : {R : Type 0} (title : List ℕ) (rule_text : R → List ℕ) (fault other : AtLine R) → (fault.line ≡ other.line) × (fault.rule ≡ other.rule)
     → line_text title fault.line (rule_text fault.rule) ≡ line_text title other.line (rule_text other.rule)
 same_line {R} title rule_text fault other (line, rule) = ap (λ (n : ℕ). line_text title n (rule_text fault.rule)) line ∙ ap (λ (r : R). line_text title other.line (rule_text r)) rule
 
-whole_image_once : (bytes : List ℕ) → IsReadOnce WholeImage bytes
-whole_image_once bytes =
+image_once : (bytes : List ℕ) → IsReadOnce Image bytes
+image_once bytes =
     let one = image_reading bytes in
     record {
       value = one.value;
@@ -75,14 +66,19 @@ whole_image_once bytes =
       text = λ fault other a b. same_line (codes "image") image_rule fault other (one.fault fault.line other.line fault.rule other.rule a b);
     }
 
-whole_plan_once : (image : ImageWords) (bytes : List ℕ) → IsReadOnce (WholePlan image) bytes
-whole_plan_once image bytes =
+plan_once : (image : ImageWords) (bytes : List ℕ) → IsReadOnce (Plan image) bytes
+plan_once image bytes =
     let one = plan_reading image bytes in
     record {
       value = one.value;
       apart = λ v fault. one.no_fault v fault.line fault.rule;
       text = λ fault other a b. same_line (codes "plan") plan_rule fault other (one.fault fault.line other.line fault.rule other.rule a b);
     }
+
+cert_once : (bytes : List ℕ) → IsReadOnce Cert bytes
+cert_once bytes =
+    let one = certificate_reading bytes in
+    record { value = one.value; apart = λ v fault. one.no_fault v fault; text = λ fault other a b. ap (λ (f : AtByte). offset_text (codes "cert") f.offset (cert_rule f.rule)) (one.fault fault other a b) }
 
 script_once : (plan : PlanLines) (bytes : List ℕ) → IsReadOnce (Script plan) bytes
 script_once plan bytes =
@@ -104,16 +100,25 @@ source_once bytes =
 
 -- ---- the commands
 
+-- after an image and a plan over it
+over_plan_once : (holds : List ℕ → Option (List ℕ)) (image plan : List ℕ) (next : PlanLines → Work Task) (e f : Ending)
+    → ((lines : PlanLines) → Leads holds (next lines) e → Leads holds (next lines) f → e ≡ f)
+    → Leads holds (over_plan image plan next) e → Leads holds (over_plan image plan next) f → e ≡ f
+over_plan_once holds image plan next e f rest =
+    after_one holds Image image (λ words. Reads (Plan words) plan next) e f image_once
+    (λ bytes words is. after_one holds (Plan words) plan next e f (plan_once words) (λ text lines read. rest lines))
+
 pub one_ending : (order : Order) → HasOneEnding order
 one_ending (Check image plan cert) holds e f =
-    after_one holds Image image (λ words. Reads (Plan words) plan (with_cert Checks cert)) e f image_once
-    (λ bytes words is. after_one holds (Plan words) plan (with_cert Checks cert) e f (λ text. plan_once words text (image_few bytes words is))
-    (λ text lines read. after_one holds Cert cert (λ c. Does (Checks lines c)) e f cert_once (λ spelling c spelled a b. a ∙ sym b)))
+    over_plan_once holds image plan (with_cert Checks cert) e f
+    (λ lines. after_one holds Cert cert (λ c. Does (Checks lines c)) e f cert_once (λ spelling c spelled a b. a ∙ sym b))
 one_ending (Run image plan script steps) holds e f =
-    after_one holds WholeImage image (with_plan plan script steps) e f whole_image_once
-    (λ bytes words is. after_one holds (WholePlan words) plan (with_script script steps) e f (whole_plan_once words)
-    (λ text lines read. after_one holds (Script lines) script (λ s. Does (Runs lines s steps)) e f (script_once lines) (λ spelling s spelled a b. a ∙ sym b)))
+    over_plan_once holds image plan (with_script script steps) e f
+    (λ lines. after_one holds (Script lines) script (λ s. Does (Runs lines s steps)) e f (script_once lines) (λ spelling s spelled a b. a ∙ sym b))
+one_ending (Upgrade image plan cert new) holds e f =
+    over_plan_once holds image plan (with_cert Upgrades cert) e f
+    (λ lines. after_one holds Cert cert (λ c. Does (Upgrades lines c)) e f cert_once (λ spelling c spelled a b. a.is ∙ sym b.is))
 one_ending (Assemble source image) holds e f =
     after_one holds Source source (λ words. Does (Assembles words)) e f source_once (λ bytes words is a b. a ∙ sym b)
 one_ending (Disasm image) holds e f =
-    after_one holds WholeImage image (λ words. Does (Lists words)) e f whole_image_once (λ bytes words is a b. a ∙ sym b)
+    after_one holds Image image (λ words. Does (Lists words)) e f image_once (λ bytes words is a b. a ∙ sym b)

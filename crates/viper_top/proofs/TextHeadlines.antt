@@ -7,7 +7,7 @@ use Rattle.viper_io.specs.Causes.{Stock, Output, Handed, Wrote}
 use Rattle.viper_top.specs.declared.status.Status.TheVariants.{Done, Input}
 use Rattle.viper_top.specs.Endings.{Ending}
 use Rattle.viper_top.specs.Orders.{Assemble, Disasm}
-use Rattle.viper_top.specs.Contents.{Kind, Value, WholeImage, Source}
+use Rattle.viper_top.specs.Contents.{Kind, Value, Image, Source}
 use Rattle.viper_top.specs.Works.{Does, Reads, Walks}
 use Rattle.viper_top.specs.Assemble.{assembled}
 use Rattle.viper_top.specs.Disasm.{listed}
@@ -54,7 +54,7 @@ made_image source image s0 s1 out0 out1 a =
 
 pub listed_image : (image : List ℕ) (s0 s1 : Stock) (out0 out1 : Output) → Answered (Disasm image) s0 s1 Done out0 out1 → Listed image s0 s1 out0 out1
 listed_image image s0 s1 out0 out1 a =
-    let r = one_read WholeImage image Lists s0 s1 a.given a.ending a.is_given (λ other. done_is_not_input (a.status ∙ other)) a.walks in
+    let r = one_read Image image Lists s0 s1 a.given a.ending a.is_given (λ other. done_is_not_input (a.status ∙ other)) a.walks in
     let is : a.ending ≡ listed r.value = r.ends in
     let image_is = image_fits r.read.bytes r.value r.read.is in
     record {

@@ -1,10 +1,9 @@
 -- check: the verdict of a certificate over its plan.
 use Rattle.std.specs.Prelude.{ℕ, List, Result, Ok, Err}
 use Rattle.memory_plan.specs.Plans.{PlanLines}
-use Rattle.viper_top.specs.declared.cert_checker.Bound.{Bound}
-use Rattle.viper_top.specs.declared.cert_checker.Refusal.{Refusal}
-use Rattle.viper_top.specs.Certificates.{Certificate}
-use Rattle.viper_top.specs.Verdicts.{verdict_of}
+use Rattle.cert_checker.specs.declared.verdict.Bound.{Bound}
+use Rattle.cert_checker.specs.declared.verdict.Refusal.{Refusal}
+use Rattle.viper_top.specs.Certificates.{Certificate, verdict_of}
 use Rattle.viper_top.specs.Texts.{yes_text, no_text}
 use Rattle.viper_top.specs.Endings.{Ending, done, refused}
 

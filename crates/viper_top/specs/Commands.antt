@@ -5,17 +5,19 @@ use Rattle.memory_plan.specs.Plans.{PlanLines}
 use Rattle.peripheral_run.specs.Scripts.{Scripted}
 use Rattle.viper_top.specs.Certificates.{Certificate}
 use Rattle.viper_top.specs.Endings.{Ending}
-use Rattle.viper_top.specs.Orders.{Order, Check, Run, Assemble, Disasm}
-use Rattle.viper_top.specs.Contents.{Image, Plan, Cert, WholeImage, WholePlan, Script, Source}
+use Rattle.viper_top.specs.Orders.{Order, Check, Run, Upgrade, Assemble, Disasm}
+use Rattle.viper_top.specs.Contents.{Image, Plan, Cert, Script, Source}
 use Rattle.viper_top.specs.Works.{Work, Does, Reads}
 use Rattle.viper_top.specs.Check.{checked}
 use Rattle.viper_top.specs.Run.{ran}
 use Rattle.viper_top.specs.Assemble.{assembled}
 use Rattle.viper_top.specs.Disasm.{listed}
+use Rattle.viper_top.specs.Upgrade.{EndsUpgraded}
 
 -- what is to be done once all is read
 pub data Task : Type 0 where
   Checks : PlanLines → Certificate → Task
+  Upgrades : PlanLines → Certificate → Task
   Runs : PlanLines → Scripted → ℕ → Task
   Assembles : ImageWords → Task
   Lists : ImageWords → Task
@@ -23,6 +25,7 @@ pub data Task : Type 0 where
 -- how a task may end
 abbrev pub Ends : Task → Ending → Type 0
 Ends (Checks plan cert) ending = ending ≡ checked plan cert
+Ends (Upgrades plan cert) ending = EndsUpgraded plan cert ending
 Ends (Runs plan script steps) ending = ending ≡ ran plan script steps
 Ends (Assembles words) ending = ending ≡ assembled words
 Ends (Lists words) ending = ending ≡ listed words
@@ -39,21 +42,14 @@ with_cert task cert plan = Reads Cert cert (λ c. Does (task plan c))
 abbrev pub with_script : List ℕ → ℕ → PlanLines → Work Task
 with_script script steps plan = Reads (Script plan) script (λ s. Does (Runs plan s steps))
 
--- a whole plan over its image, and a script over that
-abbrev pub with_plan : List ℕ → List ℕ → ℕ → ImageWords → Work Task
-with_plan plan script steps words = Reads (WholePlan words) plan (with_script script steps)
-
 -- a source
 abbrev pub assemble_work : List ℕ → Work Task
 assemble_work source = Reads Source source (λ words. Does (Assembles words))
 
--- a whole image, and how it goes on
-abbrev pub over_image : List ℕ → (ImageWords → Work Task) → Work Task
-over_image image next = Reads WholeImage image next
-
 -- what each command reads
 abbrev pub work_of : Order → Work Task
 work_of (Check image plan cert) = over_plan image plan (with_cert Checks cert)
-work_of (Run image plan script steps) = over_image image (with_plan plan script steps)
+work_of (Run image plan script steps) = over_plan image plan (with_script script steps)
+work_of (Upgrade image plan cert new) = over_plan image plan (with_cert Upgrades cert)
 work_of (Assemble source image) = assemble_work source
-work_of (Disasm image) = over_image image (λ words. Does (Lists words))
+work_of (Disasm image) = Reads Image image (λ words. Does (Lists words))

@@ -1,7 +1,6 @@
 -- The kinds of contents: what texts call them, their limits, what their bytes spell, and what breaks their grammar.
 use Rattle.std.specs.Prelude.{ℕ, List, ◌++◌, codes, decimal}
 use Rattle.memory_plan.specs.Plans.{PlanLines}
-use Rattle.memory_plan.specs.FirstForms.{IsFirstImage, IsFirstPlan}
 use Rattle.memory_plan.specs.Images.{IsImage, IsImageFault}
 use Rattle.memory_plan.specs.PlanText.{IsPlan, IsPlanFault}
 use Rattle.memory_plan.specs.declared.text_fault.ImageRule.{ImageRule}
@@ -17,17 +16,18 @@ use Rattle.peripheral_run.specs.Scripts.{Scripted, IsScript, IsScriptFault}
 use Rattle.peripheral_run.specs.declared.fault.ScriptRule.{ScriptRule}
 use Rattle.peripheral_run.specs.declared.fault.ScriptRule.TheVariants as script_rules
 use Rattle.peripheral_run.specs.declared.fault.ScriptFault.TheVariants as script_faults
+use Rattle.cert_format.specs.ReadCerts.{IsFirstFault}
+use Rattle.cert_format.specs.declared.fault.CertRule.{CertRule}
+use Rattle.cert_format.specs.declared.fault.CertRule.TheVariants as cert_rules
+use Rattle.cert_format.specs.declared.fault.CertFault.TheVariants as cert_faults
 use Rattle.viper_top.specs.declared.stage.TheConstants.{IMAGE_LIMIT, PLAN_LIMIT, CERT_LIMIT, SCRIPT_LIMIT, SOURCE_LIMIT}
 use Rattle.viper_top.specs.Certificates.{Certificate, IsCertificate}
 
--- A plan is read over its image, a script over its plan. `check` reads the plainest images and plans so far;
--- whole ones are those in full.
+-- a plan is read over its image, a script over its plan
 pub data Kind : Type 0 where
   Image : Kind
   Plan : List (ℕ × ℕ) → Kind
   Cert : Kind
-  WholeImage : Kind
-  WholePlan : List (ℕ × ℕ) → Kind
   Script : PlanLines → Kind
   Source : Kind
 
@@ -36,8 +36,6 @@ abbrev pub Value : Kind → Type 0
 Value Image = List (ℕ × ℕ)
 Value (Plan image) = PlanLines
 Value Cert = Certificate
-Value WholeImage = List (ℕ × ℕ)
-Value (WholePlan image) = PlanLines
 Value (Script plan) = Scripted
 Value Source = List (ℕ × ℕ)
 
@@ -46,8 +44,6 @@ abbrev pub title_of : Kind → List ℕ
 title_of Image = codes "image"
 title_of (Plan image) = codes "plan"
 title_of Cert = codes "cert"
-title_of WholeImage = codes "image"
-title_of (WholePlan image) = codes "plan"
 title_of (Script plan) = codes "script"
 title_of Source = codes "source"
 
@@ -56,51 +52,40 @@ abbrev pub limit_of : Kind → ℕ
 limit_of Image = IMAGE_LIMIT
 limit_of (Plan image) = PLAN_LIMIT
 limit_of Cert = CERT_LIMIT
-limit_of WholeImage = IMAGE_LIMIT
-limit_of (WholePlan image) = PLAN_LIMIT
 limit_of (Script plan) = SCRIPT_LIMIT
 limit_of Source = SOURCE_LIMIT
 
 -- what bytes spell
 abbrev pub Spells : (kind : Kind) → List ℕ → Value kind → Type 0
-Spells Image = IsFirstImage
-Spells (Plan image) = IsFirstPlan image
+Spells Image = IsImage
+Spells (Plan image) = IsPlan image
 Spells Cert = IsCertificate
-Spells WholeImage = IsImage
-Spells (WholePlan image) = IsPlan image
 Spells (Script plan) = IsScript plan
 Spells Source = IsSource
-
--- the fault of a content that is none of the forms that are read: it has no place and no rule
-pub data OfNoForm : Type 0 where
-  unbuilt : OfNoForm
 
 -- the first line that breaks a rule, and the rule
 pub record AtLine (R : Type 0) : Type 0 where
   pub line : ℕ
   pub rule : R
 
+-- the offset of the first field that breaks a rule, in bytes from 0, and the rule
+pub record AtByte : Type 0 where
+  pub offset : ℕ
+  pub rule : CertRule
+
 -- the faults of a kind: where its bytes break its grammar, and which rule
 abbrev pub Fault : Kind → Type 0
-Fault Image = OfNoForm
-Fault (Plan image) = OfNoForm
-Fault Cert = OfNoForm
-Fault WholeImage = AtLine ImageRule
-Fault (WholePlan image) = AtLine PlanRule
+Fault Image = AtLine ImageRule
+Fault (Plan image) = AtLine PlanRule
+Fault Cert = AtByte
 Fault (Script plan) = AtLine ScriptRule
 Fault Source = AtLine AsmRule
 
--- the bytes spell no value
-pub record SpellsNone {V : Type 0} (Is : List ℕ → V → Type 0) (bytes : List ℕ) : Type 0 where
-  pub none : (v : V) → Is bytes v → ⊥
-
 -- the bytes break the grammar of their kind so
 abbrev pub Breaks : (kind : Kind) → List ℕ → Fault kind → Type 0
-Breaks Image bytes fault = SpellsNone IsFirstImage bytes
-Breaks (Plan image) bytes fault = SpellsNone (IsFirstPlan image) bytes
-Breaks Cert bytes fault = SpellsNone IsCertificate bytes
-Breaks WholeImage bytes fault = IsImageFault bytes (image_faults.At fault.line fault.rule)
-Breaks (WholePlan image) bytes fault = IsPlanFault image bytes (plan_faults.At fault.line fault.rule)
+Breaks Image bytes fault = IsImageFault bytes (image_faults.At fault.line fault.rule)
+Breaks (Plan image) bytes fault = IsPlanFault image bytes (plan_faults.At fault.line fault.rule)
+Breaks Cert bytes fault = IsFirstFault bytes (cert_faults.At fault.offset fault.rule)
 Breaks (Script plan) bytes fault = IsScriptFault plan bytes (script_faults.At fault.line fault.rule)
 Breaks Source bytes fault = source_fault bytes fault.line fault.rule
 
@@ -120,6 +105,16 @@ plan_rule plan_rules.Code = codes "Code"
 plan_rule plan_rules.Marker = codes "Marker"
 plan_rule plan_rules.Start = codes "Start"
 
+abbrev pub cert_rule : CertRule → List ℕ
+cert_rule cert_rules.Length = codes "Length"
+cert_rule cert_rules.Magic = codes "Magic"
+cert_rule cert_rules.Version = codes "Version"
+cert_rule cert_rules.Range = codes "Range"
+cert_rule cert_rules.Order = codes "Order"
+cert_rule cert_rules.Value = codes "Value"
+cert_rule cert_rules.Trailing = codes "Trailing"
+cert_rule cert_rules.Bare = codes "Bare"
+
 abbrev pub script_rule : ScriptRule → List ℕ
 script_rule script_rules.Form = codes "Form"
 script_rule script_rules.Start = codes "Start"
@@ -136,17 +131,15 @@ source_rule source_rules.Label = codes "Label"
 unfoldable pub line_text : List ℕ → ℕ → List ℕ → List ℕ
 line_text title line rule = title ++ codes " line " ++ decimal line ++ codes " " ++ rule ++ codes "\n"
 
--- the text of a content that is none of the forms that are read
-abbrev pub unbuilt_text : List ℕ → List ℕ
-unbuilt_text title = codes "unbuilt " ++ title ++ codes "\n"
+-- the text of a rule that a field breaks
+unfoldable pub offset_text : List ℕ → ℕ → List ℕ → List ℕ
+offset_text title offset rule = title ++ codes " offset " ++ decimal offset ++ codes " " ++ rule ++ codes "\n"
 
 -- the text of a fault
 abbrev pub fault_text : (kind : Kind) → Fault kind → List ℕ
-fault_text Image fault = unbuilt_text (title_of Image)
-fault_text (Plan image) fault = unbuilt_text (title_of (Plan image))
-fault_text Cert fault = unbuilt_text (title_of Cert)
-fault_text WholeImage fault = line_text (title_of WholeImage) fault.line (image_rule fault.rule)
-fault_text (WholePlan image) fault = line_text (title_of (WholePlan image)) fault.line (plan_rule fault.rule)
+fault_text Image fault = line_text (title_of Image) fault.line (image_rule fault.rule)
+fault_text (Plan image) fault = line_text (title_of (Plan image)) fault.line (plan_rule fault.rule)
+fault_text Cert fault = offset_text (title_of Cert) fault.offset (cert_rule fault.rule)
 fault_text (Script plan) fault = line_text (title_of (Script plan)) fault.line (script_rule fault.rule)
 fault_text Source fault = line_text (title_of Source) fault.line (source_rule fault.rule)
 

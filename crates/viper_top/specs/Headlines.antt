@@ -1,28 +1,28 @@
 -- What Done and Refused mean of each command.
-use Rattle.std.specs.Prelude.{◌≡◌, ℕ, ◌≤◌, List, [], ◌∷◌, ◌++◌, length, Some, true}
+use Rattle.std.specs.Prelude.{◌≡◌, ℕ, ◌≤◌, List, [], ◌∷◌, ◌++◌, length, Some, true, false}
 use Rattle.memory_plan.specs.Plans.{PlanLines}
 use Rattle.memory_plan.specs.Runs.{CanRun}
-use Rattle.memory_plan.specs.FirstForms.{IsFirstImage, IsFirstPlan}
 use Rattle.viper_io.specs.Causes.{Stock, Output, Handed, Wrote, HoldsWhereTold}
 use Rattle.viper_top.specs.declared.status.Status.{Status}
-use Rattle.viper_top.specs.declared.cert_checker.Refusal.{Refusal}
-use Rattle.viper_top.specs.Certificates.{Certificate, IsCertificate}
-use Rattle.viper_top.specs.Conditions.{Local}
-use Rattle.viper_top.specs.Verdicts.{bounds_of}
-use Rattle.viper_top.specs.Claims.{Holds, FailsFirst}
+use Rattle.cert_format.specs.declared.version.Version.TheVariants.{Two}
+use Rattle.cert_format.specs.Spelling.{IsCert, cert_bytes}
+use Rattle.cert_checker.specs.declared.verdict.Refusal.{Refusal}
+use Rattle.abs_step.specs.StepLaws.{Ascend}
+use Rattle.viper_top.specs.Certificates.{Certificate, IsCertificate, Local, FailsFirst, bounds_of, full, Holds}
 use Rattle.viper_top.specs.Texts.{yes_text, no_text}
 use Rattle.viper_top.specs.Endings.{Ending}
 use Rattle.memory_plan.specs.Images.{ImageWords, IsImage, image_text}
 use Rattle.memory_plan.specs.PlanText.{IsPlan}
 use Rattle.peripheral_run.specs.Scripts.{Scripted, IsScript}
 use Rattle.peripheral_run.specs.Opening.{opening}
-use Rattle.peripheral_run.specs.Runs.{run_of}
-use Rattle.peripheral_run.specs.ScriptRuns.{IsRunOver}
+use Rattle.peripheral_run.specs.Runs.{Outcome, run_of}
+use Rattle.peripheral_run.specs.ScriptRuns.{IsRunOver, has_stopped}
 use Rattle.field_asm.specs.Sources.{IsSource}
 use Rattle.disasm_view.specs.Listings.{listing}
 use Rattle.viper_top.specs.Assemble.{words_text}
 use Rattle.viper_top.specs.Run.{ran}
-use Rattle.viper_top.specs.Contents.{Kind, Image, Plan, Cert, WholeImage, WholePlan, Script, Source, Value, limit_of, Spells}
+use Rattle.viper_top.specs.Upgrade.{packed_again, upgrade_text}
+use Rattle.viper_top.specs.Contents.{Kind, Image, Plan, Cert, Script, Source, Value, limit_of, Spells}
 
 -- the bytes of a name, as a content of that kind
 abbrev pub handed_as : Kind → List ℕ → List ℕ → Handed
@@ -42,8 +42,8 @@ pub record AreRead (image plan cert : List ℕ) (before now : Stock) (lines : Pl
   pub image_told : before.tells ≡ true → before.holds image ≡ Some image_bytes
   pub plan_told : before.tells ≡ true → before.holds plan ≡ Some plan_bytes
   pub cert_told : before.tells ≡ true → before.holds cert ≡ Some cert_bytes
-  pub image_is : IsFirstImage image_bytes words
-  pub plan_is : IsFirstPlan words plan_bytes lines
+  pub image_is : IsImage image_bytes words
+  pub plan_is : IsPlan words plan_bytes lines
   pub cert_is : IsCertificate cert_bytes certificate
 
 -- Done: all local conditions hold of what was read; every fair run is safe, and each marker is bounded
@@ -98,13 +98,21 @@ pub record AreFollowed (image plan script : List ℕ) (before now : Stock) (line
   pub plan_bytes : List ℕ
   pub script_bytes : List ℕ
   pub handed : now.handed ≡ before.handed
-      ++ handed_as WholeImage image image_bytes ∷ handed_as (WholePlan words) plan plan_bytes ∷ handed_as (Script lines) script script_bytes ∷ []
+      ++ handed_as Image image image_bytes ∷ handed_as (Plan words) plan plan_bytes ∷ handed_as (Script lines) script script_bytes ∷ []
   pub image_told : before.tells ≡ true → before.holds image ≡ Some image_bytes
   pub plan_told : before.tells ≡ true → before.holds plan ≡ Some plan_bytes
   pub script_told : before.tells ≡ true → before.holds script ≡ Some script_bytes
   pub image_is : IsImage image_bytes words
   pub plan_is : IsPlan words plan_bytes lines
   pub script_is : IsScript lines script_bytes scripted
+
+-- the run of the plan over the script
+abbrev pub run_over : PlanLines → Scripted → ℕ → Outcome
+run_over lines scripted steps = run_of lines steps scripted.answers (opening lines scripted.state)
+
+-- where all local conditions hold of the plan with some certificate, the run doesn't stop the machine
+abbrev pub IsUnstopped : PlanLines → Outcome → Type 0
+IsUnstopped lines o = (c : Certificate) → Ascend c.cells → Local lines c → has_stopped o.ending ≡ false
 
 -- The ending and the outputs that were put are those of the machine's run over the script that was read, which
 -- is one of the plan's fair runs.
@@ -114,7 +122,22 @@ pub record Followed (image plan script : List ℕ) (steps : ℕ) (before now : S
   pub read : AreFollowed image plan script before now lines scripted
   pub status : ends ≡ (ran lines scripted steps).status
   pub put : Wrote out_before.text (ran lines scripted steps).text out_now.text
-  pub runs : IsRunOver lines steps scripted.answers (opening lines scripted.state) (run_of lines steps scripted.answers (opening lines scripted.state))
+  pub runs : IsRunOver lines steps scripted.answers (opening lines scripted.state) (run_over lines scripted steps)
+  pub unstopped : IsUnstopped lines (run_over lines scripted steps)
+
+-- ---- upgrade
+
+-- Done: the bytes of what was read, filled and then packed, stand under the new name in version 2, where the
+-- store tells; they spell that certificate; filling it gives what filling the one that was read gives; and how
+-- many nodes and bare nodes it has was put.
+pub record Upgraded (image plan cert new : List ℕ) (before now : Stock) (out_before out_now : Output) : Type 0 where
+  pub lines : PlanLines
+  pub certificate : Certificate
+  pub read : AreRead image plan cert before now lines certificate
+  pub placed : HoldsWhereTold now.tells (now.holds new) (cert_bytes Two (packed_again lines certificate))
+  pub spelled : IsCert Two (cert_bytes Two (packed_again lines certificate)) (packed_again lines certificate)
+  pub same : full lines (packed_again lines certificate) ≡ full lines certificate
+  pub put : Wrote out_before.text (upgrade_text (packed_again lines certificate)) out_now.text
 
 -- ---- assemble and disasm
 
@@ -137,7 +160,7 @@ pub record Assembled (source image : List ℕ) (before now : Stock) (out_before 
 -- Done: what was read is an image, whose listing was put, which is a source of that image within the limit of one.
 pub record Listed (image : List ℕ) (before now : Stock) (out_before out_now : Output) : Type 0 where
   pub words : ImageWords
-  pub read : IsOnlyRead WholeImage image before now words
+  pub read : IsOnlyRead Image image before now words
   pub put : Wrote out_before.text (listing words) out_now.text
   pub assembles : IsSource (listing words) words
   pub short : length (listing words) ≤ limit_of Source

@@ -1,9 +1,4 @@
-pub mod Facts
 pub mod Certificates
-pub mod Reading
-pub mod Conditions
-pub mod Verdicts
-pub mod Claims
 pub mod Texts
 pub mod Endings
 pub mod Orders
@@ -17,3 +12,4 @@ pub mod Headlines
 pub mod Stages
 pub mod Assemble
 pub mod Disasm
+pub mod Upgrade

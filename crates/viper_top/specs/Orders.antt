@@ -10,6 +10,7 @@ use Rattle.std.specs.Str.{bytes_eq}
 pub data Order : Type 0 where
   Check : (image plan cert : List ℕ) → Order
   Run : (image plan script : List ℕ) → (steps : ℕ) → Order
+  Upgrade : (image plan cert new : List ℕ) → Order
   Assemble : (source image : List ℕ) → Order
   Disasm : (image : List ℕ) → Order
 
@@ -17,6 +18,7 @@ pub data Order : Type 0 where
 abbrev pub target_of : Order → Option (List ℕ)
 target_of (Check image plan cert) = None
 target_of (Run image plan script steps) = None
+target_of (Upgrade image plan cert new) = Some new
 target_of (Assemble source image) = Some image
 target_of (Disasm image) = None
 
@@ -44,17 +46,19 @@ steps_of text =
     then bind (natural text) (λ n. if nat_le 1 n && nat_le n MOST_STEPS then Some n else None)
     else None
 
--- the rows with three names and a number of steps
-abbrev pub names_and_steps : List ℕ → List ℕ → List ℕ → List ℕ → List ℕ → Option Order
-names_and_steps word a b c d =
-    if bytes_eq word (codes "run") then bind (steps_of d) (λ n. Some (Run a b c n)) else None
+-- the rows with three names and a number of steps, or a fourth name
+abbrev pub four_words : List ℕ → List ℕ → List ℕ → List ℕ → List ℕ → Option Order
+four_words word a b c d =
+    if bytes_eq word (codes "run") then bind (steps_of d) (λ n. Some (Run a b c n))
+    else if bytes_eq word (codes "upgrade") && is_plain d then Some (Upgrade a b c d)
+    else None
 
 -- the rows; where the words are none of them, they are no command
 abbrev pub order_of : List (List ℕ) → Option Order
 order_of (word ∷ a ∷ []) = if is_plain a then one_name word a else None
 order_of (word ∷ a ∷ b ∷ []) = if is_plain a && is_plain b then two_names word a b else None
 order_of (word ∷ a ∷ b ∷ c ∷ []) = if is_plain a && is_plain b && is_plain c then three_names word a b c else None
-order_of (word ∷ a ∷ b ∷ c ∷ d ∷ []) = if is_plain a && is_plain b && is_plain c then names_and_steps word a b c d else None
+order_of (word ∷ a ∷ b ∷ c ∷ d ∷ []) = if is_plain a && is_plain b && is_plain c then four_words word a b c d else None
 order_of _ = None
 
 -- the command on the command line, as the program is handed its words

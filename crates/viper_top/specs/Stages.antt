@@ -2,6 +2,7 @@
 use Rattle.std.specs.Prelude.{◌≡◌, ℕ, ◌<◌, ◌≤◌, length, List, [], ◌∷◌, Option, Some, None, Result, Ok, Err, ◌⊎◌}
 use Rattle.memory_plan.specs.Images.{ImageWords}
 use Rattle.memory_plan.specs.Plans.{PlanLines}
+use Rattle.cert_format.specs.Limits.{IsWithinLimits}
 use Rattle.viper_io.specs.Causes.{Stock, Handed}
 use Rattle.viper_io.specs.declared.fault.Call.TheVariants.{Fetch}
 use Rattle.viper_top.specs.declared.answer.Answer.{Answer}
@@ -14,24 +15,27 @@ use Rattle.viper_top.specs.declared.stage.OverPlan.{OverPlan}
 use Rattle.viper_top.specs.declared.stage.OverPlan.TheVariants as then
 use Rattle.viper_top.specs.declared.stage.OverImage.{OverImage}
 use Rattle.viper_top.specs.declared.stage.OverImage.TheVariants as over
+use Rattle.viper_top.specs.declared.stage.OverCert.{OverCert}
+use Rattle.viper_top.specs.declared.stage.OverCert.TheVariants as with_it
 use Rattle.viper_top.specs.declared.stage.Stage.{Stage}
 use Rattle.viper_top.specs.declared.stage.Stage.TheVariants as stage
 use Rattle.viper_top.specs.declared.stage.Next.{Next}
 use Rattle.viper_top.specs.declared.stage.Next.TheVariants.{Due, Ready, Over}
 use Rattle.viper_top.specs.declared.task.Task.{Task as Job}
 use Rattle.viper_top.specs.declared.task.Task.TheVariants as job
-use Rattle.viper_top.specs.Certificates.{cert_view}
+use Rattle.viper_top.specs.Certificates.{Certificate}
 use Rattle.viper_top.specs.Endings.{Ending, done, made, refused, input}
-use Rattle.viper_top.specs.Orders.{Order, Check, Run, Assemble, Disasm}
-use Rattle.viper_top.specs.Contents.{Kind, Plan, WholePlan, Value, Fault, title_of, limit_of, long_text, Spells, Breaks, fault_text}
+use Rattle.viper_top.specs.Orders.{Order, Check, Run, Upgrade, Assemble, Disasm}
+use Rattle.viper_top.specs.Contents.{Kind, Image, Plan, Value, Fault, title_of, limit_of, long_text, Spells, Breaks, fault_text}
 use Rattle.viper_top.specs.Works.{Work, Does, Reads, Walks, Awaits}
-use Rattle.viper_top.specs.Commands.{Task, Checks, Runs, Assembles, Lists, Ends, over_plan, with_cert, with_plan, with_script, over_image, assemble_work}
+use Rattle.viper_top.specs.Commands.{Task, Checks, Upgrades, Runs, Assembles, Lists, Ends, with_cert, with_script, assemble_work}
 use Rattle.viper_top.specs.Promises.{Given, Failed, Grew}
 
 -- as the program holds them
 abbrev pub order_view : Command → Order
 order_view (command.Check i p c) = Check i.now p.now c.now
 order_view (command.Run i p s n) = Run i.now p.now s.now n
+order_view (command.Upgrade i p c n) = Upgrade i.now p.now c.now n.now
 order_view (command.Assemble s i) = Assemble s.now i.now
 order_view (command.Disasm i) = Disasm i.now
 
@@ -41,41 +45,58 @@ ending_of (answer.Made bytes text) = made bytes.items text.items
 ending_of (answer.Refused text) = refused text.items
 ending_of (answer.Input text) = input text.items
 
+-- what is done with a certificate
+abbrev pub left_by : OverCert → PlanLines → Certificate → Task
+left_by with_it.Check = Checks
+left_by with_it.Upgrade = Upgrades
+
 -- what comes after a plan
 abbrev pub left_over : OverPlan → PlanLines → Work Task
-left_over (then.Check cert) plan = with_cert Checks cert.now plan
+left_over (then.Cert cert then) plan = with_cert (left_by then) cert.now plan
+left_over (then.Script script steps) plan = with_script script.now steps plan
 
--- what comes after a whole image
+-- what comes after an image
 abbrev pub left_behind : OverImage → ImageWords → Work Task
-left_behind (over.Run plan script steps) words = with_plan plan.now script.now steps words
+left_behind (over.Plan plan then) words = Reads (Plan words) plan.now (left_over then)
 left_behind over.List words = Does (Lists words)
 
 -- what is still to be read
 abbrev pub left : Stage → Work Task
-left (stage.Image image plan then) = over_plan image.now plan.now (left_over then)
+left (stage.Image image then) = Reads Image image.now (left_behind then)
 left (stage.Plan image plan then) = Reads (Plan image) plan.now (left_over then)
-left (stage.Cert plan cert) = with_cert Checks cert.now plan
-left (stage.WholeImage image then) = over_image image.now (left_behind then)
-left (stage.WholePlan image plan script steps) = Reads (WholePlan image) plan.now (with_script script.now steps)
+left (stage.Cert plan cert then) = with_cert (left_by then) cert.now plan
 left (stage.Script plan script steps) = with_script script.now steps plan
 left (stage.Source source) = assemble_work source.now
 
 -- how many contents that are at the most
 abbrev pub count_left : Stage → ℕ
-count_left (stage.Image image plan then) = 3
+count_left (stage.Image image then) = 3
 count_left (stage.Plan image plan then) = 2
-count_left (stage.Cert plan cert) = 1
-count_left (stage.WholeImage image then) = 3
-count_left (stage.WholePlan image plan script steps) = 2
+count_left (stage.Cert plan cert then) = 1
 count_left (stage.Script plan script steps) = 1
 count_left (stage.Source source) = 1
 
 -- what is to be done, as the program holds it
 abbrev pub task_of : Job → Task
-task_of (job.Check plan cert) = Checks plan (cert_view cert)
+task_of (job.Check judged) = Checks judged.plan judged.cert
+task_of (job.Upgrade judged) = Upgrades judged.plan judged.cert
 task_of (job.Run plan script steps) = Runs plan script steps
 task_of (job.Assemble image) = Assembles image
 task_of (job.Disasm image) = Lists image
+
+-- what may be done: a certificate is judged within its limits
+abbrev pub MayBegin : Job → Type 0
+MayBegin (job.Check judged) = IsWithinLimits judged.cert
+MayBegin (job.Upgrade judged) = IsWithinLimits judged.cert
+MayBegin (job.Run plan script steps) = Unit {0}
+MayBegin (job.Assemble image) = Unit {0}
+MayBegin (job.Disasm image) = Unit {0}
+
+-- what is ready may be done
+abbrev pub IsSound : Next → Type 0
+IsSound (Due s) = Unit {0}
+IsSound (Ready j) = MayBegin j
+IsSound (Over a) = Unit {0}
 
 -- the program goes on as the work does
 abbrev pub Follows : Work Task → Next → Type 0

@@ -39,19 +39,7 @@ impl From<Memory> for Stop {
 impl Answer {
     ghost use Rattle.viper_top.specs.Stages.{ending_of};
     ghost use Rattle.viper_top.specs.Endings.{input};
-    ghost use Rattle.viper_top.specs.Contents.{line_text};
-
-    /// A content with this title is none of the forms that are read.
-    pub fn unbuilt(alloc: Global, title: &str) -> Result<Answer, Memory>
-        ensures { IfOk result (λ a. ending_of a
-            ≡ input (codes "unbuilt " ++ title.now ++ codes "\n")) }
-    {
-        let mut text = LineText::new(alloc);
-        text.plain("unbuilt ")?;
-        text.plain(title)?;
-        text.plain("\n")?;
-        Ok(Answer::input(text))
-    }
+    ghost use Rattle.viper_top.specs.Contents.{line_text, offset_text};
 
     /// The line of a content with this title breaks a rule.
     #[tactic(auto, unfolding(crate::specs::Contents::line_text))]
@@ -62,6 +50,21 @@ impl Answer {
         text.plain(title)?;
         text.plain(" line ")?;
         text.number(line.into())?;
+        text.plain(" ")?;
+        text.plain(rule)?;
+        text.plain("\n")?;
+        Ok(Answer::input(text))
+    }
+
+    /// The field at this offset of a content with this title breaks a rule.
+    #[tactic(auto, unfolding(crate::specs::Contents::offset_text))]
+    pub fn at_offset(alloc: Global, title: &str, offset: u64, rule: &str) -> Result<Answer, Memory>
+        ensures { IfOk result (λ a. ending_of a ≡ input (offset_text title.now offset rule.now)) }
+    {
+        let mut text = LineText::new(alloc);
+        text.plain(title)?;
+        text.plain(" offset ")?;
+        text.number(offset)?;
         text.plain(" ")?;
         text.plain(rule)?;
         text.plain("\n")?;

@@ -1,5 +1,5 @@
 ghost use Rattle.std.specs.Prelude.{◌≡◌, option_map};
-ghost use Rattle.viper_top.specs.Orders.{is_plain, order_in, one_name, two_names, three_names, steps_of, names_and_steps, target_of};
+ghost use Rattle.viper_top.specs.Orders.{is_plain, order_in, one_name, two_names, three_names, steps_of, four_words, target_of};
 ghost use Rattle.viper_top.specs.Stages.{order_view};
 
 use memory_plan::natural;
@@ -25,6 +25,13 @@ pub enum Command<'a> {
         plan: &'a str,
         script: &'a str,
         steps: u64,
+    },
+    /// `upgrade IMAGE PLAN CERT NEW`
+    Upgrade {
+        image: &'a str,
+        plan: &'a str,
+        cert: &'a str,
+        new: &'a str,
     },
     /// `assemble SRC IMAGE`
     Assemble {
@@ -56,7 +63,7 @@ pub fn command_of<'a>(words: &[&'a str]) -> Option<Command<'a>>
         [word, a, b] if is_plain(a) && is_plain(b) => two_names(word, a, b),
         [word, a, b, c] if is_plain(a) && is_plain(b) && is_plain(c) => three_names(word, a, b, c),
         [word, a, b, c, d] if is_plain(a) && is_plain(b) && is_plain(c) => {
-            names_and_steps(word, a, b, c, d)
+            four_words(word, a, b, c, d)
         }
         _ => None,
     }
@@ -77,15 +84,9 @@ fn steps_of(word: &str) -> Option<u64>
     }
 }
 
-/// The command of this word with three names and a number of steps.
-fn names_and_steps<'a>(
-    word: &str,
-    a: &'a str,
-    b: &'a str,
-    c: &'a str,
-    d: &str,
-) -> Option<Command<'a>>
-    ensures { option_map order_view result ≡ names_and_steps word.now a.now b.now c.now d.now }
+/// The command of this word with three names, and a number of steps or a fourth name.
+fn four_words<'a>(word: &str, a: &'a str, b: &'a str, c: &'a str, d: &'a str) -> Option<Command<'a>>
+    ensures { option_map order_view result ≡ four_words word.now a.now b.now c.now d.now }
 {
     match word {
         "run" => {
@@ -97,6 +98,12 @@ fn names_and_steps<'a>(
                 steps,
             })
         }
+        "upgrade" if is_plain(d) => Some(Command::Upgrade {
+            image: a,
+            plan: b,
+            cert: c,
+            new: d,
+        }),
         _ => None,
     }
 }
@@ -145,6 +152,7 @@ impl<'a> Command<'a> {
     {
         match *self {
             Command::Check { .. } | Command::Run { .. } | Command::Disasm { .. } => None,
+            Command::Upgrade { new, .. } => Some(new),
             Command::Assemble { image, .. } => Some(image),
         }
     }

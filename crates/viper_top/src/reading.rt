@@ -1,6 +1,6 @@
 ghost use Rattle.std.specs.Prelude.{◌≡◌, IfOk};
 ghost use Rattle.viper_top.specs.Commands.{work_of};
-ghost use Rattle.viper_top.specs.Stages.{order_view, left, CameTo, SteppedTo, Stays, count_left, IsFewer};
+ghost use Rattle.viper_top.specs.Stages.{order_view, left, CameTo, SteppedTo, Stays, count_left, IsFewer, IsSound};
 
 use crate::answer::{Answer, Stop};
 use crate::command_line::Command;
@@ -15,6 +15,7 @@ fn step<'a, S: Store>(alloc: Global, store: &mut S, stage: Stage<'a>) -> Result<
     ensures stepped { SteppedTo (left stage.entry) (S.stock store.old) (S.stock store.new) result }
     ensures stays { Stays (S.stock store.old) (S.stock store.new) }
     ensures fewer { IfOk result (IsFewer (count_left stage.entry)) }
+    ensures sound { IfOk result IsSound }
 {
     let asked = stage.asked();
     match store.fetch(alloc, asked.name, asked.limit) {

@@ -1,8 +1,9 @@
-//! The names of the rules that a line may break.
+//! The names of the rules that a line or a field may break.
 
 ghost use Rattle.std.specs.Prelude.{◌≡◌};
-ghost use Rattle.viper_top.specs.Contents.{image_rule, plan_rule, script_rule, source_rule};
+ghost use Rattle.viper_top.specs.Contents.{cert_rule, image_rule, plan_rule, script_rule, source_rule};
 
+use cert_format::CertRule;
 use field_asm::AsmRule;
 use memory_plan::{ImageRule, PlanRule};
 use peripheral_run::ScriptRule;
@@ -31,6 +32,22 @@ pub fn plan_rule(rule: PlanRule) -> &'static str
         PlanRule::Code => "Code",
         PlanRule::Marker => "Marker",
         PlanRule::Start => "Start",
+    }
+}
+
+/// The name of a certificate's rule (docs/FORMATS.md, "Certificates").
+pub fn cert_rule(rule: CertRule) -> &'static str
+    ensures { result.now ≡ cert_rule rule }
+{
+    match rule {
+        CertRule::Length => "Length",
+        CertRule::Magic => "Magic",
+        CertRule::Version => "Version",
+        CertRule::Range => "Range",
+        CertRule::Order => "Order",
+        CertRule::Value => "Value",
+        CertRule::Trailing => "Trailing",
+        CertRule::Bare => "Bare",
     }
 }
 

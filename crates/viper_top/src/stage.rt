@@ -1,21 +1,19 @@
 ghost use Rattle.std.specs.Prelude.{◌≡◌, ◌<◌, ◌≤◌, length, IfOk};
-ghost use Rattle.viper_top.specs.declared.stage.Stage.TheVariants as stages;
 ghost use Rattle.viper_top.specs.declared.stage.TheConstants.{IMAGE_LIMIT, PLAN_LIMIT, SCRIPT_LIMIT, SOURCE_LIMIT};
-ghost use Rattle.viper_top.specs.Contents.{Image as image_kind, Plan as plan_kind, Cert as cert_kind};
-ghost use Rattle.viper_top.specs.Contents.{WholeImage as whole_image_kind, WholePlan as whole_plan_kind, Script as script_kind, Source as source_kind};
+ghost use Rattle.viper_top.specs.Contents.{Image as image_kind, Plan as plan_kind, Cert as cert_kind, Script as script_kind, Source as source_kind};
+ghost use Rattle.cert_format.specs.Limits.{IsWithinLimits};
 ghost use Rattle.viper_top.specs.Works.{Does, Reads};
-ghost use Rattle.viper_top.specs.Commands.{work_of, Checks, Runs, Assembles, with_script};
-ghost use Rattle.viper_top.specs.Stages.{order_view, left, left_over, left_behind, count_left, Follows, Asks, FitsIn, Took, TookIn, IsFewer};
+ghost use Rattle.viper_top.specs.Commands.{work_of, Runs, Assembles};
+ghost use Rattle.viper_top.specs.Stages.{order_view, left, left_by, left_over, left_behind, count_left, IsSound, Follows, Asks, FitsIn, Took, TookIn, IsFewer};
 
 use crate::answer::Answer;
-use crate::cert_format::read_cert;
 use crate::command_line::Command;
-use crate::rules::{image_rule, plan_rule, script_rule, source_rule};
+use crate::judged::Judged;
+use crate::rules::{cert_rule, image_rule, plan_rule, script_rule, source_rule};
 use crate::task::Task;
+use cert_format::{CertFault, read_cert};
 use field_asm::{AsmFault, assemble};
-use memory_plan::{
-    FirstFault, Image, ImageFault, Plan, PlanFault, first_image, first_plan, read_image, read_plan,
-};
+use memory_plan::{Image, ImageFault, Plan, PlanFault, read_image, read_plan};
 use peripheral_run::{ScriptFault, read_script};
 use std::alloc::Global;
 use viper_word::Memory;
@@ -35,34 +33,40 @@ const SCRIPT_LIMIT: u64 = 16_000_000;
 /// How many bytes a source has at the most.
 const SOURCE_LIMIT: u64 = 33_554_432;
 
-/// What comes after a whole image.
+/// What is done with a certificate.
 #[derive(Clone, Copy)]
-pub enum OverImage<'a> {
-    /// A whole plan over it, and a script over that, over which so many steps are run.
-    Run {
-        plan: &'a str,
-        script: &'a str,
-        steps: u64,
-    },
-    /// It is listed.
-    List,
+pub enum OverCert {
+    /// It is judged.
+    Check,
+    /// It is written anew.
+    Upgrade,
 }
 
 /// What comes after a plan.
 #[derive(Clone, Copy)]
 pub enum OverPlan<'a> {
-    /// A certificate, which is judged.
-    Check { cert: &'a str },
+    /// A certificate.
+    Cert { cert: &'a str, then: OverCert },
+    /// A script, over which so many steps are run.
+    Script { script: &'a str, steps: u64 },
+}
+
+/// What comes after an image.
+#[derive(Clone, Copy)]
+pub enum OverImage<'a> {
+    /// A plan over it.
+    Plan { plan: &'a str, then: OverPlan<'a> },
+    /// It is listed.
+    List,
 }
 
 /// Which content is due, with what was read before.
 #[derive(Drop)]
 pub enum Stage<'a> {
-    /// An image, and then a plan over it.
+    /// An image.
     Image {
         image: &'a str,
-        plan: &'a str,
-        then: OverPlan<'a>,
+        then: OverImage<'a>,
     },
     /// A plan over its image.
     Plan {
@@ -70,22 +74,11 @@ pub enum Stage<'a> {
         plan: &'a str,
         then: OverPlan<'a>,
     },
-    /// A certificate, which is judged over its plan.
+    /// A certificate over its plan.
     Cert {
         plan: Plan,
         cert: &'a str,
-    },
-    /// A whole image.
-    WholeImage {
-        image: &'a str,
-        then: OverImage<'a>,
-    },
-    /// A whole plan over its image, and then a script.
-    WholePlan {
-        image: Image,
-        plan: &'a str,
-        script: &'a str,
-        steps: u64,
+        then: OverCert,
     },
     /// A script over its plan.
     Script {
@@ -118,31 +111,52 @@ pub struct Asked<'a> {
     pub title: &'static str,
 }
 
+/// The stage of a plan over its image, and what comes after it.
+fn over_plan<'a>(image: &'a str, plan: &'a str, then: OverPlan<'a>) -> Stage<'a>
+    ensures { left result ≡ Reads image_kind image.now (λ words. Reads (plan_kind words) plan.now
+        (left_over then.entry)) }
+{
+    Stage::Image {
+        image,
+        then: OverImage::Plan { plan, then },
+    }
+}
+
 /// How a command begins.
 pub fn begin<'a>(command: &Command<'a>) -> Next<'a>
-    ensures { Follows (work_of (order_view command.now)) result }
+    ensures follows { Follows (work_of (order_view command.now)) result }
+    ensures sound { IsSound result }
 {
     match *command {
-        Command::Check { image, plan, cert } => Next::Due(Stage::Image {
+        Command::Check { image, plan, cert } => Next::Due(over_plan(
             image,
             plan,
-            then: OverPlan::Check { cert },
-        }),
+            OverPlan::Cert {
+                cert,
+                then: OverCert::Check,
+            },
+        )),
         Command::Run {
             image,
             plan,
             script,
             steps,
-        } => Next::Due(Stage::WholeImage {
+        } => Next::Due(over_plan(image, plan, OverPlan::Script { script, steps })),
+        Command::Upgrade {
             image,
-            then: OverImage::Run {
-                plan,
-                script,
-                steps,
+            plan,
+            cert,
+            ..
+        } => Next::Due(over_plan(
+            image,
+            plan,
+            OverPlan::Cert {
+                cert,
+                then: OverCert::Upgrade,
             },
-        }),
+        )),
         Command::Assemble { source, .. } => Next::Due(Stage::Source { source }),
-        Command::Disasm { image } => Next::Due(Stage::WholeImage {
+        Command::Disasm { image } => Next::Due(Stage::Image {
             image,
             then: OverImage::List,
         }),
@@ -150,71 +164,11 @@ pub fn begin<'a>(command: &Command<'a>) -> Next<'a>
 }
 
 /// An image was handed out.
-fn take_image<'a>(
-    alloc: Global,
-    bytes: &[u8],
-    plan: &'a str,
-    then: OverPlan<'a>,
-) -> Result<Next<'a>, Memory>
-    ensures took { IfOk result (Took image_kind
-        (λ words. Reads (plan_kind words) plan.now (left_over then.entry)) bytes.now) }
-    ensures fewer { IfOk result (IsFewer 3) }
-{
-    match first_image(alloc, bytes) {
-        Ok(image) => Ok(Next::Due(Stage::Plan { image, plan, then })),
-        Err(FirstFault::Unbuilt) => Ok(Next::Over(Answer::unbuilt(alloc, "image")?)),
-        Err(FirstFault::Memory) => Err(Memory),
-    }
-}
-
-/// A plan was handed out.
-fn take_plan<'a>(
-    alloc: Global,
-    bytes: &[u8],
-    image: &Image,
-    then: OverPlan<'a>,
-) -> Result<Next<'a>, Memory>
-    ensures took { IfOk result (Took (plan_kind image.now) (left_over then.entry) bytes.now) }
-    ensures fewer { IfOk result (IsFewer 2) }
-{
-    match first_plan(alloc, bytes, image) {
-        Ok(plan) => Ok(after_plan(plan, then)),
-        Err(FirstFault::Unbuilt) => Ok(Next::Over(Answer::unbuilt(alloc, "plan")?)),
-        Err(FirstFault::Memory) => Err(Memory),
-    }
-}
-
-/// What comes after a plan that was read.
-fn after_plan<'a>(plan: Plan, then: OverPlan<'a>) -> Next<'a>
-    ensures follows { Follows (left_over then.entry plan) result }
-    ensures fewer { IsFewer 2 result }
-{
-    match then {
-        OverPlan::Check { cert } => Next::Due(Stage::Cert { plan, cert }),
-    }
-}
-
-/// A certificate was handed out.
-fn take_cert<'a>(alloc: Global, bytes: &[u8], plan: Plan) -> Result<Next<'a>, Memory>
-    ensures took { IfOk result (Took cert_kind (λ c. Does (Checks plan c)) bytes.now) }
-    ensures fewer { IfOk result (IsFewer 1) }
-{
-    match read_cert(alloc, bytes) {
-        Ok(cert) => Ok(Next::Ready(Task::Check { plan, cert })),
-        Err(FirstFault::Unbuilt) => Ok(Next::Over(Answer::unbuilt(alloc, "cert")?)),
-        Err(FirstFault::Memory) => Err(Memory),
-    }
-}
-
-/// A whole image was handed out.
-fn take_whole_image<'a>(
-    alloc: Global,
-    bytes: &[u8],
-    then: OverImage<'a>,
-) -> Result<Next<'a>, Memory>
+fn take_image<'a>(alloc: Global, bytes: &[u8], then: OverImage<'a>) -> Result<Next<'a>, Memory>
     requires { length bytes.now ≤ IMAGE_LIMIT }
-    ensures took { IfOk result (Took whole_image_kind (left_behind then.entry) bytes.now) }
+    ensures took { IfOk result (Took image_kind (left_behind then.entry) bytes.now) }
     ensures fewer { IfOk result (IsFewer 3) }
+    ensures sound { IfOk result IsSound }
 {
     match read_image(alloc, bytes) {
         Ok(image) => Ok(after_image(image, then)),
@@ -226,50 +180,87 @@ fn take_whole_image<'a>(
     }
 }
 
-/// What comes after a whole image that was read.
+/// What comes after an image that was read.
 fn after_image<'a>(image: Image, then: OverImage<'a>) -> Next<'a>
     ensures follows { Follows (left_behind then.entry image) result }
     ensures fewer { IsFewer 3 result }
+    ensures sound { IsSound result }
 {
     match then {
-        OverImage::Run {
-            plan,
-            script,
-            steps,
-        } => Next::Due(Stage::WholePlan {
-            image,
-            plan,
-            script,
-            steps,
-        }),
+        OverImage::Plan { plan, then } => Next::Due(Stage::Plan { image, plan, then }),
         OverImage::List => Next::Ready(Task::Disasm { image }),
     }
 }
 
-/// A whole plan was handed out.
-fn take_whole_plan<'a>(
+/// A plan was handed out.
+fn take_plan<'a>(
     alloc: Global,
     bytes: &[u8],
     image: &Image,
-    script: &'a str,
-    steps: u64,
+    then: OverPlan<'a>,
 ) -> Result<Next<'a>, Memory>
     requires { length bytes.now ≤ PLAN_LIMIT }
-    ensures took { IfOk result (Took (whole_plan_kind image.now)
-        (with_script script.now steps) bytes.now) }
+    ensures took { IfOk result (Took (plan_kind image.now) (left_over then.entry) bytes.now) }
     ensures fewer { IfOk result (IsFewer 2) }
+    ensures sound { IfOk result IsSound }
 {
     match read_plan(alloc, bytes, image) {
-        Ok(plan) => Ok(Next::Due(Stage::Script {
-            plan,
-            script,
-            steps,
-        })),
+        Ok(plan) => Ok(after_plan(plan, then)),
         Err(PlanFault::At { line, rule }) => {
             let answer = Answer::at_line(alloc, "plan", line, plan_rule(rule))?;
             Ok(Next::Over(answer))
         }
         Err(PlanFault::Memory) => Err(Memory),
+    }
+}
+
+/// What comes after a plan that was read.
+fn after_plan<'a>(plan: Plan, then: OverPlan<'a>) -> Next<'a>
+    ensures follows { Follows (left_over then.entry plan) result }
+    ensures fewer { IsFewer 2 result }
+    ensures sound { IsSound result }
+{
+    match then {
+        OverPlan::Cert { cert, then } => Next::Due(Stage::Cert { plan, cert, then }),
+        OverPlan::Script { script, steps } => Next::Due(Stage::Script {
+            plan,
+            script,
+            steps,
+        }),
+    }
+}
+
+/// A certificate was handed out.
+fn take_cert<'a>(
+    alloc: Global,
+    bytes: &[u8],
+    plan: Plan,
+    then: OverCert,
+) -> Result<Next<'a>, Memory>
+    ensures took { IfOk result (Took cert_kind (λ c. Does (left_by then plan c)) bytes.now) }
+    ensures fewer { IfOk result (IsFewer 1) }
+    ensures sound { IfOk result IsSound }
+{
+    match read_cert(alloc, bytes) {
+        Ok(cert) => Ok(after_cert(Judged { plan, cert }, then)),
+        Err(CertFault::At { offset, rule }) => {
+            let answer = Answer::at_offset(alloc, "cert", offset, cert_rule(rule))?;
+            Ok(Next::Over(answer))
+        }
+        Err(CertFault::Memory) => Err(Memory),
+    }
+}
+
+/// What comes after a certificate that was read.
+fn after_cert<'a>(judged: Judged, then: OverCert) -> Next<'a>
+    requires { IsWithinLimits judged.cert }
+    ensures follows { Follows (Does (left_by then judged.plan judged.cert)) result }
+    ensures fewer { IsFewer 1 result }
+    ensures sound { IsSound result }
+{
+    match then {
+        OverCert::Check => Next::Ready(Task::Check { judged }),
+        OverCert::Upgrade => Next::Ready(Task::Upgrade { judged }),
     }
 }
 
@@ -279,6 +270,7 @@ fn take_script<'a>(alloc: Global, bytes: &[u8], plan: Plan, steps: u64) -> Resul
     ensures took { IfOk result (Took (script_kind plan)
         (λ s. Does (Runs plan s steps)) bytes.now) }
     ensures fewer { IfOk result (IsFewer 1) }
+    ensures sound { IfOk result IsSound }
 {
     match read_script(alloc, bytes, &plan) {
         Ok(script) => Ok(Next::Ready(Task::Run {
@@ -299,6 +291,7 @@ fn take_source<'a>(alloc: Global, bytes: &[u8]) -> Result<Next<'a>, Memory>
     requires { length bytes.now ≤ SOURCE_LIMIT }
     ensures took { IfOk result (Took source_kind (λ words. Does (Assembles words)) bytes.now) }
     ensures fewer { IfOk result (IsFewer 1) }
+    ensures sound { IfOk result IsSound }
 {
     match assemble(alloc, bytes) {
         Ok(image) => Ok(Next::Ready(Task::Assemble { image })),
@@ -331,16 +324,6 @@ impl<'a> Stage<'a> {
                 limit: CERT_LIMIT,
                 title: "cert",
             },
-            Stage::WholeImage { image, .. } => Asked {
-                name: image,
-                limit: IMAGE_LIMIT,
-                title: "image",
-            },
-            Stage::WholePlan { plan, .. } => Asked {
-                name: plan,
-                limit: PLAN_LIMIT,
-                title: "plan",
-            },
             Stage::Script { script, .. } => Asked {
                 name: script,
                 limit: SCRIPT_LIMIT,
@@ -360,18 +343,12 @@ impl<'a> Stage<'a> {
         requires { FitsIn (left self) bytes.now }
         ensures took { IfOk result (TookIn (left self.entry) bytes.now) }
         ensures fewer { IfOk result (IsFewer (count_left self.entry)) }
+        ensures sound { IfOk result IsSound }
     {
         match self {
-            Stage::Image { plan, then, .. } => take_image(alloc, bytes, plan, then),
+            Stage::Image { then, .. } => take_image(alloc, bytes, then),
             Stage::Plan { image, then, .. } => take_plan(alloc, bytes, &image, then),
-            Stage::Cert { plan, .. } => take_cert(alloc, bytes, plan),
-            Stage::WholeImage { then, .. } => take_whole_image(alloc, bytes, then),
-            Stage::WholePlan {
-                image,
-                script,
-                steps,
-                ..
-            } => take_whole_plan(alloc, bytes, &image, script, steps),
+            Stage::Cert { plan, then, .. } => take_cert(alloc, bytes, plan, then),
             Stage::Script { plan, steps, .. } => take_script(alloc, bytes, plan, steps),
             Stage::Source { .. } => take_source(alloc, bytes),
         }

@@ -1,13 +1,14 @@
 ghost use Rattle.std.specs.Prelude.{IfOk};
 ghost use Rattle.viper_top.specs.Commands.{Ends};
-ghost use Rattle.viper_top.specs.Stages.{task_of, ending_of};
+ghost use Rattle.viper_top.specs.Stages.{task_of, ending_of, MayBegin};
 
 use crate::answer::Answer;
 use crate::assemble::write;
-use crate::cert_format::Cert;
 use crate::check::judge;
 use crate::disasm::list;
+use crate::judged::Judged;
 use crate::run::follow;
+use crate::upgrade::upgrade;
 use memory_plan::{Image, Plan};
 use peripheral_run::Script;
 use std::alloc::Global;
@@ -18,8 +19,11 @@ use viper_word::Memory;
 pub enum Task {
     /// The certificate is judged over its plan.
     Check {
-        plan: Plan,
-        cert: Cert,
+        judged: Judged,
+    },
+    /// The certificate is written anew.
+    Upgrade {
+        judged: Judged,
     },
     /// So many steps are run over the script.
     Run {
@@ -39,10 +43,12 @@ pub enum Task {
 
 /// Does it: how the command ends.
 pub fn work(alloc: Global, task: Task) -> Result<Answer, Memory>
+    requires { MayBegin task }
     ensures { IfOk result (λ a. Ends (task_of task) (ending_of a)) }
 {
     match task {
-        Task::Check { plan, cert } => judge(alloc, &plan, &cert),
+        Task::Check { judged } => judge(alloc, &judged),
+        Task::Upgrade { judged } => upgrade(alloc, &judged),
         Task::Run {
             plan,
             script,

@@ -1,8 +1,8 @@
 ghost use Rattle.std.specs.Prelude.{◌≡◌, ◌++◌, IfOk, OnOk};
 ghost use Rattle.viper_top.specs.Texts.{bound_text, marker_line, yes_text, cond_text, place_text, no_text};
 
-use crate::abs_step::Cond;
-use crate::cert_checker::{Bound, Place, Refusal};
+use abs_step::Cond;
+use cert_checker::{Bound, Place, Refusal};
 use line_text::LineText;
 use std::alloc::Global;
 use viper_word::{Addr, Memory};
@@ -49,9 +49,15 @@ fn cond_text(cond: Cond) -> &'static str
     ensures { result.now ≡ cond_text cond }
 {
     match cond {
+        Cond::H1 => "H1",
         Cond::H2 => "H2",
         Cond::C1 => "C1",
+        Cond::C2 => "C2",
+        Cond::C3 => "C3",
+        Cond::C4 => "C4",
         Cond::C5 => "C5",
+        Cond::C6 => "C6",
+        Cond::C7 => "C7",
         Cond::C8 => "C8",
         Cond::C9 => "C9",
         Cond::C10 => "C10",
@@ -64,11 +70,12 @@ fn push_place(text: &mut LineText, place: Place) -> Result<(), Memory>
     ensures { OnOk result (text.new ≡ text.old ++ place_text place) }
 {
     let (kind, number) = match place {
+        Place::Cell(number) => ("cell ", number),
         Place::Start(number) => ("start ", number),
         Place::Node(number) => ("node ", number),
     };
     text.plain(kind)?;
-    text.number(number.into())
+    text.number(number)
 }
 
 /// The text of a no: the first condition that fails, its place and the address there (README.md,
@@ -81,7 +88,7 @@ pub fn no_text(alloc: Global, refusal: Refusal) -> Result<Vec<u8>, Memory>
     text.plain("no ")?;
     push_place(&mut text, refusal.place)?;
     text.plain(" address ")?;
-    text.address(refusal.address)?;
+    text.address(refusal.addr)?;
     text.plain(" condition ")?;
     text.plain(cond_text(refusal.cond))?;
     text.plain("\n")?;

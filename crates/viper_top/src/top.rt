@@ -4,9 +4,9 @@ ghost use Rattle.viper_io.specs.Causes.{Rose, Wrote};
 ghost use Rattle.viper_io.specs.Held.{sure_stock, sure_output};
 ghost use Rattle.viper_top.specs.Certificates.{Certificate};
 ghost use Rattle.viper_top.specs.Endings.{EndsAnswered};
-ghost use Rattle.viper_top.specs.Orders.{Order, Check, Run, Assemble, Disasm, order_in, target_of, target_in};
+ghost use Rattle.viper_top.specs.Orders.{Order, Check, Run, Upgrade, Assemble, Disasm, order_in, target_of, target_in};
 ghost use Rattle.viper_top.specs.Check.{checked};
-ghost use Rattle.viper_top.specs.Headlines.{Verified, Declined, AreGiven, EndsAs, Followed, Assembled, Listed};
+ghost use Rattle.viper_top.specs.Headlines.{Verified, Declined, AreGiven, EndsAs, Followed, Upgraded, Assembled, Listed};
 ghost use Rattle.viper_top.specs.Promises.{OfOrder, Answered, FailedOutside, LeftFront, Keeps, IsQuiet, NothingFailed, NoFailures, Grew, Settled, WroteUsage};
 ghost use Rattle.viper_top.specs.Stages.{order_view};
 
@@ -105,7 +105,8 @@ fn answer_words<S: Store, K: Sink>(
 }
 
 /// Does what the words of the command line say, which are those after the program's name: so far
-/// `check IMAGE PLAN CERT`, `run IMAGE PLAN SCRIPT STEPS`, `assemble SRC IMAGE` and `disasm IMAGE`.
+/// `check IMAGE PLAN CERT`, `run IMAGE PLAN SCRIPT STEPS`, `upgrade IMAGE PLAN CERT NEW`,
+/// `assemble SRC IMAGE` and `disasm IMAGE`.
 /// Each content is fetched once, in the row's order; what the command makes is placed, and its text
 /// goes to the sink in one put (README.md, "Statuses and texts"; docs/PROVED.md says the clauses in
 /// words).
@@ -139,12 +140,21 @@ pub fn viper_main<S: Store, K: Sink>(
         → result ≢ Status.Memory
         → EndsAs (checked lines certificate) result (K.output out.old) (K.output out.new) }
     // run, Done and Refused: the ending and the outputs put are those of the machine's run, which is one
-    // of the plan's fair runs.
+    // of the plan's fair runs, and isn't stopped where local conditions hold with some certificate.
     ensures run_ends { (image plan script : List ℕ) → (steps : ℕ)
         → order_in words.now ≡ Some (Run image plan script steps)
         → (result ≡ Status.Done) ⊎ (result ≡ Status.Refused)
         → Followed image plan script steps (S.stock store.old) (S.stock store.new) result
         (K.output out.old) (K.output out.new) }
+    // upgrade, Done: the certificate that was read is placed in version 2, with each node bare whose
+    // fact follows, and filled it is the same.
+    ensures upgrade_done { (image plan cert new : List ℕ)
+        → order_in words.now ≡ Some (Upgrade image plan cert new) → result ≡ Status.Done
+        → Upgraded image plan cert new (S.stock store.old) (S.stock store.new)
+        (K.output out.old) (K.output out.new) }
+    // upgrade judges nothing: it is never Refused.
+    ensures upgrade_unrefused { (image plan cert new : List ℕ)
+        → order_in words.now ≡ Some (Upgrade image plan cert new) → result ≢ Status.Refused }
     // assemble, Done: the text of the source's image is placed, and its number of words put.
     ensures assemble_done { (source image : List ℕ)
         → order_in words.now ≡ Some (Assemble source image) → result ≡ Status.Done

@@ -37,6 +37,12 @@ fn rows(alloc: Global) -> Result<Command<'static>, AllocError> {
         &["IMAGE", "PLAN", "SCRIPT", "STEPS"],
         "IMAGE PLAN SCRIPT STEPS: runs a program over a script of answers",
     )?;
+    let upgrade = row(
+        alloc,
+        "upgrade",
+        &["IMAGE", "PLAN", "CERT", "NEW"],
+        "IMAGE PLAN CERT NEW: writes a certificate anew, in version 2",
+    )?;
     let assemble = row(
         alloc,
         "assemble",
@@ -56,6 +62,7 @@ fn rows(alloc: Global) -> Result<Command<'static>, AllocError> {
         .disable_version_flag(true)
         .subcommand(check)?
         .subcommand(run)?
+        .subcommand(upgrade)?
         .subcommand(assemble)?
         .subcommand(disasm)
 }

@@ -1,6 +1,6 @@
-use Rattle.std.proofs.Common.{◌≡◌, ℕ, suc, ◌+◌, ◌<◌, List, length, take, get_or, sym, subst, arith}
+use Rattle.std.proofs.Common.{◌≡◌, ℕ, suc, ◌+◌, ◌<◌, List, length, take, sym, subst, arith}
 use Rattle.std.specs.List.{AllByRecursion}
-use Rattle.cert_format.specs.Certificates.{NodeOf, no_node}
+use Rattle.cert_format.specs.Certificates.{no_node}
 use Rattle.cert_format.specs.Limits.{IsBelow, IsNode}
 use Rattle.cert_checker.specs.Claiming.{AreListers}
 use Rattle.cert_checker.proofs.Places.{one_of}

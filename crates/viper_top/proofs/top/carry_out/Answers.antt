@@ -1,7 +1,13 @@
-use Rattle.std.proofs.Common.{inr}
+use Rattle.std.proofs.Common.{inl, inr, ◌∙◌}
 use Rattle.viper_top.specs.Stages.{order_view}
-use Rattle.viper_top.proofs.Outcomes.{place_outside, kept_failed, kept_placed, front_left}
+use Rattle.viper_top.proofs.Outcomes.{place_outside, answered_by, kept_failed, kept_placed, front_left}
 use Rattle.viper_top.proofs.top.carry_out.Goals as goal
+
+pub returns-clause-answered : goal.returns-clause-answered
+returns-clause-answered g c = λ answered.
+    let put = c.put.ensures.put (inl answered) in
+    answered_by (order_view c.args.command.now) _ _ _ c.in-Ok.answer c.put.result _ _ c.in-Ok.ensures.came c.place.ensures.handed c.place.ensures.grew.longs
+    (put.0 ∙ c.status.ensures) (rw c.text.ensures at put.1) (rw c.target.ensures at c.in-Ok-place.ensures.placed)
 
 pub returns-in-Err-Outside-place-clause-outside : goal.returns-in-Err-Outside-place-clause-outside
 returns-in-Err-Outside-place-clause-outside g c = λ e.

@@ -1,5 +1,6 @@
-use Rattle.viper_top.specs.Orders.{Check, Run, Assemble, Disasm}
+use Rattle.viper_top.specs.Orders.{Check, Run, Upgrade, Assemble, Disasm}
 use Rattle.viper_top.proofs.RunHeadline.{worked, followed}
+use Rattle.viper_top.proofs.UpgradeHeadline.{made_again, unrefused}
 use Rattle.viper_top.proofs.TextHeadlines.{made_image, listed_image}
 use Rattle.viper_top.proofs.Apart.{of_order, ends_by, usage_by, complete_by}
 use Rattle.viper_top.proofs.Headlines.{verified, declined, ends_as}
@@ -22,6 +23,14 @@ pub returns-clause-run_ends : goal.returns-clause-run_ends
 returns-clause-run_ends g c = λ image plan script steps order ends.
     let w = worked c.answer_words.result ends in
     followed image plan script steps _ _ c.answer_words.result _ _ w.1 (of_order _ (Run image plan script steps) _ order (c.answer_words.ensures.answered w.0))
+
+pub returns-clause-upgrade_done : goal.returns-clause-upgrade_done
+returns-clause-upgrade_done g c = λ image plan cert new order done.
+    made_again image plan cert new _ _ _ _ (rw done at (of_order _ (Upgrade image plan cert new) _ order (c.answer_words.ensures.answered (rw done tt))))
+
+pub returns-clause-upgrade_unrefused : goal.returns-clause-upgrade_unrefused
+returns-clause-upgrade_unrefused g c = λ image plan cert new order refused.
+    unrefused image plan cert new _ _ _ _ (rw refused at (of_order _ (Upgrade image plan cert new) _ order (c.answer_words.ensures.answered (rw refused tt))))
 
 pub returns-clause-assemble_done : goal.returns-clause-assemble_done
 returns-clause-assemble_done g c = λ source image order done.
