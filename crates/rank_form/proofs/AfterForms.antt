@@ -34,7 +34,7 @@ form_made ts k h few named near =
     ap (form_of k) same ∙ makes_form k (terms_from (rate ts) 0 (past ts)) near (omega (arith, ordered_few ts 0 (past ts))) (from_terms (rate ts) 0 (past ts) small)
 
 module _ {T : Type 0} (d : Domain T) (laws : DomainLaws d) where
-  after_is : (f : FormOf) (o : OutcomeOf T) → length o.after.cells ≡ length o.pre.cells → are_terms 0 f.terms ≡ true → f.constant +ℤ gains d no_links o.posts o.after f.terms ≡ (after d f o).constant
+  pub after_is : (f : FormOf) (o : OutcomeOf T) → length o.after.cells ≡ length o.pre.cells → are_terms 0 f.terms ≡ true → f.constant +ℤ gains d no_links o.posts o.after f.terms ≡ (after d f o).constant
   after_is f o e h = gains_code d f o no_links e h ∙ omega (arith, ints, weigh_none (λ v. (place no_links v).more) (after d f o).terms none_more)
 
   after_terms : (f : FormOf) (o : OutcomeOf T) → (after d f o).terms ≡ moved o.posts f.terms

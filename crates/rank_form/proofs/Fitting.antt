@@ -29,7 +29,7 @@ use Rattle.rank_form.proofs.Merging.{number_var}
 grows : (a b c d : ℕ) → a ≤ b → c ≤ d → a * c ≤ b * d
 grows a b c d h k = grind arith
 
-times_small : (c n : ℤ) (b d : ℕ) → unsigned_abs c ≤ b → unsigned_abs n ≤ d → unsigned_abs (c *ℤ n) ≤ b * d
+pub times_small : (c n : ℤ) (b d : ℕ) → unsigned_abs c ≤ b → unsigned_abs n ≤ d → unsigned_abs (c *ℤ n) ≤ b * d
 times_small c n b d h k = omega (arith, unsigned_abs-mul c n, grows (unsigned_abs c) b (unsigned_abs n) d h k)
 
 pub none_more : (v : Var) → (place no_links v).more ≡ pos 0
@@ -44,13 +44,13 @@ none_times c v = ap (λ z. c *ℤ z) (none_more v) ∙ omega (arith, ints)
 signed_small : (n : ℤ) → IsSigned n → unsigned_abs n ≤ 2 ^ 31
 signed_small n h = omega (arith, ints, h.low, h.high)
 
-most_by : (c : ℤ) (r : Ends) (b : Bool) → unsigned_abs c ≤ 2 ^ 40 → IsSigned r.lo × IsSigned r.hi → unsigned_abs (cond b (c *ℤ r.hi) (c *ℤ r.lo)) ≤ 2 ^ 71
-most_by c r true h k = omega (arith, times_small c r.hi (2 ^ 40) (2 ^ 31) h (signed_small r.hi k.1))
-most_by c r false h k = omega (arith, times_small c r.lo (2 ^ 40) (2 ^ 31) h (signed_small r.lo k.0))
+most_by : (n : ℕ) (c : ℤ) (r : Ends) (b : Bool) → unsigned_abs c ≤ n → IsSigned r.lo × IsSigned r.hi → unsigned_abs (cond b (c *ℤ r.hi) (c *ℤ r.lo)) ≤ n * 2 ^ 31
+most_by n c r true h k = times_small c r.hi n (2 ^ 31) h (signed_small r.hi k.1)
+most_by n c r false h k = times_small c r.lo n (2 ^ 31) h (signed_small r.lo k.0)
 
-most_small : (c : ℤ) (o : Option Ends) → unsigned_abs c ≤ 2 ^ 40 → IfSome o (λ r. IsSigned r.lo × IsSigned r.hi) → unsigned_abs (most c o) ≤ 2 ^ 71
-most_small c None h k = omega arith
-most_small c (Some r) h k = most_by c r (int_le (pos 0) c) h k
+pub most_small : (n : ℕ) (c : ℤ) (o : Option Ends) → unsigned_abs c ≤ n → IfSome o (λ r. IsSigned r.lo × IsSigned r.hi) → unsigned_abs (most c o) ≤ n * 2 ^ 31
+most_small n c None h k = omega arith
+most_small n c (Some r) h k = most_by n c r (int_le (pos 0) c) h k
 
 when_small : (b : Bool) (z : ℤ) (n : ℕ) → unsigned_abs z ≤ n → unsigned_abs (cond b z (pos 0)) ≤ n
 when_small true z n h = h
@@ -62,7 +62,7 @@ module _ {T : Type 0} (d : Domain T) (laws : DomainLaws d) where
   gain_small x (Plus u n) v c h k =
       subst (λ z. unsigned_abs (z +ℤ (c *ℤ n)) ≤ 2 ^ 71) (sym (none_times c u)) (omega (arith, ints, times_small c n (2 ^ 40) (2 ^ 20) h k))
   gain_small x Within v c h k =
-      when_small (is_in (length x.cells) v) (most c (span d x v)) (2 ^ 71) (most_small c (span d x v) h (ends_in_w d laws (at d.top (values x) v)))
+      when_small (is_in (length x.cells) v) (most c (span d x v)) (2 ^ 71) (most_small (2 ^ 40) c (span d x v) h (ends_in_w d laws (at d.top (values x) v)))
 
   pub gains_small : (posts : Values Post) (x : FactOf T) (ts : List (Var × ℤ)) → AreSmall (2 ^ 40) ts → ArePostsSmall (2 ^ 20) posts → unsigned_abs (gains d no_links posts x ts) ≤ length ts * 2 ^ 71
   unfolding gains

@@ -9,6 +9,8 @@ pub mod AfterLaws
 pub mod Spellings
 pub mod StateLaws
 pub mod RankLaws
+pub mod OutcomeSides
+pub mod LowEnds
 pub mod Limits
 pub mod FirstTerm
 pub mod Rating

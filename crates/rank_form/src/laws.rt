@@ -1,4 +1,5 @@
 ghost use Rattle.rank_form.specs.Laws.{BoundLaws, FormLaws};
+ghost use Rattle.rank_form.specs.Sides.{SideLaws};
 
 use num_domain::NumDomain;
 
@@ -13,4 +14,10 @@ pub fn bound_laws<D: NumDomain>()
 /// form on another.
 pub fn form_laws<D: NumDomain>()
     ensures { FormLaws D.domain }
+{}
+
+/// Each outcome of a fact knows before its step one of the fact's sides: the fact's links, no larger
+/// values, and it isn't empty. So the laws of sides are laws of outcomes.
+pub fn side_laws<D: NumDomain>()
+    ensures { SideLaws D.domain }
 {}

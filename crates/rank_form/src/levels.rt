@@ -1,11 +1,14 @@
 //! One form on another: the levels of a nest.
 ghost use Rattle.std.specs.Prelude.{◌≡◌, ◌≤◌, ◌^◌, ◌+ℤ◌, ◌*ℤ◌, neg_ℤ, pos, cond, unsigned_abs};
+ghost use Rattle.rank_form.specs.Bounds.{lower};
 ghost use Rattle.rank_form.specs.Levels.{direction, shift, level, in_limits};
 
+use crate::form::lower;
 use crate::place::no_links;
 use crate::rates::{VARIABLES, add_terms, put, zeros};
 use crate::terms::{constant, form_of, terms};
-use flag_relation::{Form, Var};
+use flag_relation::{Fact, Form, Var};
+use num_domain::NumDomain;
 
 /// What a direction weighs.
 fn sign(down: bool) -> i128
@@ -46,6 +49,15 @@ pub fn direction(var: Var, down: bool) -> Form
     ensures { result ≡ direction var down }
 {
     Form::new(0, &[(var, sign(down))]).unwrap()
+}
+
+/// The least value of a directed variable over a fact, which is at most 2^39 in size.
+pub fn lowest<D: NumDomain>(var: Var, down: bool, fact: &Fact<D>) -> i64
+    ensures { result ≡ lower D.domain (direction var down) fact.now }
+{
+    // The limits that a fact keeps bound the answer.
+    let _count = fact.count();
+    lower(&direction(var, down), fact) as i64
 }
 
 /// The weight times (the directed variable less its low end) plus another form, with its terms in

@@ -16,6 +16,6 @@ mod step;
 mod terms;
 
 pub use form::{falls_by, lower, rise, upper};
-pub use laws::{bound_laws, form_laws};
-pub use levels::{direction, level, shift};
+pub use laws::{bound_laws, form_laws, side_laws};
+pub use levels::{direction, level, lowest, shift};
 pub use step::{after, upper_after};

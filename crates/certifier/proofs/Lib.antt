@@ -1,0 +1,10 @@
+pub mod Standing
+pub mod Cells
+pub mod TermOrder
+pub mod NextNodes
+pub mod Reaching
+pub mod Fewness
+pub mod RankLimits
+pub mod MadeLaws
+pub mod Judging
+pub mod KeyPlaces

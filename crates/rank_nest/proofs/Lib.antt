@@ -1,0 +1,13 @@
+pub mod BitLaws
+pub mod Staying
+pub mod Extending
+pub mod Solution
+pub mod SmallForms
+pub mod Moving
+pub mod EndLaws
+pub mod GraphLaws
+pub mod IntoLaws
+pub mod FreshLaws
+pub mod LevelLaws
+pub mod EdgeLaws
+pub mod FaultLaws

@@ -1,0 +1,10 @@
+pub mod Bits
+pub mod Building
+pub mod Candidates
+pub mod Forms
+pub mod evidence
+pub mod Graph
+pub mod Ranks
+pub mod Ready
+pub mod Targets
+pub mod Told

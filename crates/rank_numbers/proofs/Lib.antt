@@ -1,0 +1,11 @@
+pub mod Alike
+pub mod Ending
+pub mod Excluding
+pub mod Greatest
+pub mod Leading
+pub mod Leveling
+pub mod Nesting
+pub mod Offsetting
+pub mod Raising
+pub mod Shifting
+pub mod Theorem
