@@ -85,7 +85,8 @@ fn push_node(bytes: &mut Vec<u8>, cells: usize, node: &Row<'_>) -> Result<(), Fa
     bytes.extend_from_slice(&node.at.to_be_bytes())?;
     push_value(bytes, node.a)?;
     push_value(bytes, node.x)?;
-    for _ in 0..cells + 1 {
+    push_value(bytes, ANY)?;
+    for _ in 0..cells {
         push_value(bytes, ANY)?;
     }
     bytes.extend_from_slice(&[0xFF, 0xFF, 0xFF])?;
