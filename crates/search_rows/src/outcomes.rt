@@ -1,6 +1,6 @@
 //! The outcomes of single instructions.
 
-ghost use Rattle.std.specs.Prelude.{◌≡◌, ◌≤◌, ◌≤ℤ◌, pos, length};
+ghost use Rattle.std.specs.Prelude.{◌≡◌, ◌≤◌, length};
 ghost use Rattle.flag_relation.specs.declared.fact.TheConstants.{MOST_CELLS};
 
 use crate::facts::put_fact;
@@ -105,11 +105,8 @@ const STORE: &[u8] = b"00000 2E000010\n";
 const STORE_PLAN: &[u8] =
     b"code 00000 00000\ndata 00010 00012 0..9\nmarker 00000\nstart 00000 any any any any\n";
 
-/// Its outcomes where A is from 2 to 5, the cells 0 and 1, and X from 0 to that.
-fn store_text(alloc: Global, most: i64) -> Result<LineText, Fail>
-    requires low { pos 0 ≤ℤ most }
-    requires high { most ≤ℤ pos 9 }
-{
+/// Its outcomes where A is from 2 to 5, the cells 0 and 1, and X is that.
+fn store_text(alloc: Global, x: Val) -> Result<LineText, Fail> {
     let image = read_image(alloc, STORE)?;
     let plan = read_plan(alloc, STORE_PLAN, &image)?;
     let cells = [
@@ -118,7 +115,7 @@ fn store_text(alloc: Global, most: i64) -> Result<LineText, Fail>
     ];
     let mut fact: Fact<Val> = Fact::new(alloc, 2)?;
     fact.set_reg(Reg::A, Val::span(2, 5, 1));
-    fact.set_reg(Reg::X, Val::span(0, most, 1));
+    fact.set_reg(Reg::X, x);
     fact.set_cell(0, Val::constant(0));
     fact.set_cell(1, Val::constant(1));
     let at = Addr::new(0).ok_or("an address")?;
@@ -132,14 +129,14 @@ same same same within same
 
 #[test]
 fn a_store_by_an_index_joins_the_cells_that_it_may_reach(rt: HostRuntime) -> Result<(), Fail> {
-    let text = store_text(rt.alloc(), 1)?;
+    let text = store_text(rt.alloc(), Val::span(0, 1, 1))?;
     assert_eq!(rt; text.bytes(), STORED.as_bytes());
     Ok(())
 }
 
 #[test]
 fn a_store_behind_its_data_fails(rt: HostRuntime) -> Result<(), Fail> {
-    let text = store_text(rt.alloc(), 3)?;
+    let text = store_text(rt.alloc(), Val::span(0, 3, 1))?;
     assert_eq!(rt; text.bytes(), "C6".as_bytes());
     Ok(())
 }

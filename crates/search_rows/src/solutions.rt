@@ -106,8 +106,14 @@ fn put_solved(text: &mut LineText, solved: &Solved<Val>, detail: Detail) -> Resu
     }
 }
 
+/// How many bytes an image or a plan of these tests has at the most.
+const LONGEST: usize = 10_000;
+
 /// The solution of a plan over its image, or why there is none.
 fn solution(alloc: Global, image: &str, plan: &str, detail: Detail) -> Result<LineText, Fail> {
+    if image.len() > LONGEST || plan.len() > LONGEST {
+        return Err("a text is too long")?;
+    }
     let image = read_image(alloc, image.as_bytes())?;
     let plan = read_plan(alloc, plan.as_bytes(), &image)?;
     let mut text = LineText::new(alloc);
