@@ -473,7 +473,7 @@ const UPGRADE: [&str; 5] = ["upgrade", "image", "plan", "cert", "new"];
 const RECHECK: [&str; 4] = ["check", "image", "plan", "new"];
 
 /// How many bytes the name holds.
-fn held(alloc: Global, shelf: &mut Shelf, name: &str) -> Result<usize, Fail> {
+pub(crate) fn held(alloc: Global, shelf: &mut Shelf, name: &str) -> Result<usize, Fail> {
     let bytes = shelf
         .fetch(alloc, name, 1000)
         .map_err(|_| "nothing is held")?;

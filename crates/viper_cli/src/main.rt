@@ -4,6 +4,8 @@
 #[cfg(test)]
 mod certificates;
 #[cfg(test)]
+mod certify_tests;
+#[cfg(test)]
 mod check_tests;
 #[cfg(test)]
 mod run_tests;

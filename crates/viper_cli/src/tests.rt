@@ -68,6 +68,7 @@ Usage: viper <COMMAND>
 
 Commands:
   check     IMAGE PLAN CERT: judges a certificate
+  certify   IMAGE PLAN CERT: searches for a certificate and writes it
   run       IMAGE PLAN SCRIPT STEPS: runs a program over a script of answers
   upgrade   IMAGE PLAN CERT NEW: writes a certificate anew, in version 2
   assemble  SRC IMAGE: writes the image of a source

@@ -9,3 +9,5 @@ pub mod TextHeadlines
 pub mod OneCertificate
 pub mod OneEnding
 pub mod UpgradeHeadline
+pub mod CertifyEndings
+pub mod CertifyHeadline

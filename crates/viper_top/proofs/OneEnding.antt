@@ -7,11 +7,11 @@ use Rattle.memory_plan.proofs.OneValue.{image_reading, plan_reading}
 use Rattle.field_asm.proofs.OneSource.{source_reading}
 use Rattle.peripheral_run.proofs.OneScript.{script_reading}
 use Rattle.viper_top.specs.Endings.{Ending, input}
-use Rattle.viper_top.specs.Orders.{Order, Check, Run, Upgrade, Assemble, Disasm}
+use Rattle.viper_top.specs.Orders.{Order, Check, Certify, Run, Upgrade, Assemble, Disasm}
 use Rattle.viper_top.specs.Contents.{Kind, Image, Plan, Cert, Script, Source, Value, Fault, AtLine, AtByte, limit_of, Spells, Breaks, image_rule, plan_rule, cert_rule, script_rule, source_rule, line_text, offset_text, fault_text}
 use Rattle.viper_top.specs.Works.{Work, Does, Reads, Comes}
 use Rattle.viper_top.specs.Commands.{Task, Checks, Upgrades, Runs, Assembles, Lists, over_plan, with_cert, with_script}
-use Rattle.viper_top.specs.Promises.{IsContent, Leads, HasOneEnding}
+use Rattle.viper_top.specs.Promises.{IsContent, Leads, HasFixedEnding, HasOneEnding}
 use Rattle.viper_top.proofs.OneCertificate.{certificate_reading}
 
 -- a name has one content under a limit
@@ -108,17 +108,18 @@ over_plan_once holds image plan next e f rest =
     after_one holds Image image (λ words. Reads (Plan words) plan next) e f image_once
     (λ bytes words is. after_one holds (Plan words) plan next e f (plan_once words) (λ text lines read. rest lines))
 
-pub one_ending : (order : Order) → HasOneEnding order
-one_ending (Check image plan cert) holds e f =
+pub one_ending : (order : Order) → HasFixedEnding order → HasOneEnding order
+one_ending (Check image plan cert) fixed holds e f =
     over_plan_once holds image plan (with_cert Checks cert) e f
     (λ lines. after_one holds Cert cert (λ c. Does (Checks lines c)) e f cert_once (λ spelling c spelled a b. a ∙ sym b))
-one_ending (Run image plan script steps) holds e f =
+one_ending (Certify image plan cert) fixed holds e f = absurd fixed
+one_ending (Run image plan script steps) fixed holds e f =
     over_plan_once holds image plan (with_script script steps) e f
     (λ lines. after_one holds (Script lines) script (λ s. Does (Runs lines s steps)) e f (script_once lines) (λ spelling s spelled a b. a ∙ sym b))
-one_ending (Upgrade image plan cert new) holds e f =
+one_ending (Upgrade image plan cert new) fixed holds e f =
     over_plan_once holds image plan (with_cert Upgrades cert) e f
     (λ lines. after_one holds Cert cert (λ c. Does (Upgrades lines c)) e f cert_once (λ spelling c spelled a b. a.is ∙ sym b.is))
-one_ending (Assemble source image) holds e f =
+one_ending (Assemble source image) fixed holds e f =
     after_one holds Source source (λ words. Does (Assembles words)) e f source_once (λ bytes words is a b. a ∙ sym b)
-one_ending (Disasm image) holds e f =
+one_ending (Disasm image) fixed holds e f =
     after_one holds Image image (λ words. Does (Lists words)) e f image_once (λ bytes words is a b. a ∙ sym b)

@@ -10,7 +10,11 @@ use Rattle.cert_checker.specs.declared.verdict.Refusal.{Refusal}
 use Rattle.abs_step.specs.StepLaws.{Ascend}
 use Rattle.viper_top.specs.Certificates.{Certificate, IsCertificate, Local, FailsFirst, bounds_of, full, Holds}
 use Rattle.viper_top.specs.Texts.{yes_text, no_text}
-use Rattle.viper_top.specs.Endings.{Ending}
+use Rattle.val_dom.specs.Vals.{vals}
+use Rattle.certifier.specs.Made.{IsMade}
+use Rattle.viper_top.specs.Endings.{Ending, done}
+use Rattle.viper_top.specs.Check.{checked}
+use Rattle.viper_top.specs.Certify.{certified_text, EndsRefused}
 use Rattle.memory_plan.specs.Images.{ImageWords, IsImage, image_text}
 use Rattle.memory_plan.specs.PlanText.{IsPlan}
 use Rattle.peripheral_run.specs.Scripts.{Scripted, IsScript}
@@ -124,6 +128,43 @@ pub record Followed (image plan script : List ℕ) (steps : ℕ) (before now : S
   pub put : Wrote out_before.text (ran lines scripted steps).text out_now.text
   pub runs : IsRunOver lines steps scripted.answers (opening lines scripted.state) (run_over lines scripted steps)
   pub unstopped : IsUnstopped lines (run_over lines scripted steps)
+
+-- ---- certify
+
+-- These bytes were handed out in this call, in this order, and nothing else; where the store tells, they are
+-- what the names hold; and they spell an image and a plan over it.
+pub record ArePlanned (image plan : List ℕ) (before now : Stock) (lines : PlanLines) : Type 0 where
+  pub words : List (ℕ × ℕ)
+  pub image_bytes : List ℕ
+  pub plan_bytes : List ℕ
+  pub handed : now.handed ≡ before.handed ++ handed_as Image image image_bytes ∷ handed_as (Plan words) plan plan_bytes ∷ []
+  pub image_told : before.tells ≡ true → before.holds image ≡ Some image_bytes
+  pub plan_told : before.tells ≡ true → before.holds plan ≡ Some plan_bytes
+  pub image_is : IsImage image_bytes words
+  pub plan_is : IsPlan words plan_bytes lines
+
+-- Done: the certificate of the plan's least solution, packed, stands under the third name in version 2, where
+-- the store tells. All local conditions hold of it, so a check of these bytes says yes, and every run is as its
+-- bounds claim, which were put.
+pub record Certified (image plan cert : List ℕ) (before now : Stock) (out_before out_now : Output) : Type 0 where
+  pub lines : PlanLines
+  pub read : ArePlanned image plan before now lines
+  pub certificate : Certificate
+  pub made_of : IsMade vals lines certificate
+  pub local : Local lines certificate
+  pub placed : HoldsWhereTold now.tells (now.holds cert) (cert_bytes Two certificate)
+  pub spelled : IsCert Two (cert_bytes Two certificate) certificate
+  pub checks : checked lines certificate ≡ done (yes_text (bounds_of lines certificate))
+  pub runs : Holds lines (bounds_of lines certificate)
+  pub put : Wrote out_before.text (certified_text (length certificate.nodes) (bounds_of lines certificate)) out_now.text
+
+-- Refused: a cause that is true of the plan that was read, and its text was put.
+pub record Uncertified (image plan : List ℕ) (before now : Stock) (out_before out_now : Output) : Type 0 where
+  pub lines : PlanLines
+  pub read : ArePlanned image plan before now lines
+  pub ending : Ending
+  pub refused_so : EndsRefused lines ending
+  pub put : Wrote out_before.text ending.text out_now.text
 
 -- ---- upgrade
 

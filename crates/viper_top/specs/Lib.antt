@@ -13,3 +13,4 @@ pub mod Stages
 pub mod Assemble
 pub mod Disasm
 pub mod Upgrade
+pub mod Certify

@@ -10,6 +10,7 @@ use Rattle.std.specs.Str.{bytes_eq}
 pub data Order : Type 0 where
   Check : (image plan cert : List ℕ) → Order
   Run : (image plan script : List ℕ) → (steps : ℕ) → Order
+  Certify : (image plan cert : List ℕ) → Order
   Upgrade : (image plan cert new : List ℕ) → Order
   Assemble : (source image : List ℕ) → Order
   Disasm : (image : List ℕ) → Order
@@ -18,6 +19,7 @@ pub data Order : Type 0 where
 abbrev pub target_of : Order → Option (List ℕ)
 target_of (Check image plan cert) = None
 target_of (Run image plan script steps) = None
+target_of (Certify image plan cert) = Some cert
 target_of (Upgrade image plan cert new) = Some new
 target_of (Assemble source image) = Some image
 target_of (Disasm image) = None
@@ -35,9 +37,12 @@ one_name word a = if bytes_eq word (codes "disasm") then Some (Disasm a) else No
 abbrev pub two_names : List ℕ → List ℕ → List ℕ → Option Order
 two_names word a b = if bytes_eq word (codes "assemble") then Some (Assemble a b) else None
 
--- the row with three names
+-- the rows with three names
 abbrev pub three_names : List ℕ → List ℕ → List ℕ → List ℕ → Option Order
-three_names word a b c = if bytes_eq word (codes "check") then Some (Check a b c) else None
+three_names word a b c =
+    if bytes_eq word (codes "check") then Some (Check a b c)
+    else if bytes_eq word (codes "certify") then Some (Certify a b c)
+    else None
 
 -- a number of steps: one to seven digits, from 1 on
 abbrev pub steps_of : List ℕ → Option ℕ

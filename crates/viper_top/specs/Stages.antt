@@ -2,6 +2,7 @@
 use Rattle.std.specs.Prelude.{◌≡◌, ℕ, ◌<◌, ◌≤◌, length, List, [], ◌∷◌, Option, Some, None, Result, Ok, Err, ◌⊎◌}
 use Rattle.memory_plan.specs.Images.{ImageWords}
 use Rattle.memory_plan.specs.Plans.{PlanLines}
+use Rattle.memory_plan.specs.WellFormed.{IsWellFormed}
 use Rattle.cert_format.specs.Limits.{IsWithinLimits}
 use Rattle.viper_io.specs.Causes.{Stock, Handed}
 use Rattle.viper_io.specs.declared.fault.Call.TheVariants.{Fetch}
@@ -25,16 +26,17 @@ use Rattle.viper_top.specs.declared.task.Task.{Task as Job}
 use Rattle.viper_top.specs.declared.task.Task.TheVariants as job
 use Rattle.viper_top.specs.Certificates.{Certificate}
 use Rattle.viper_top.specs.Endings.{Ending, done, made, refused, input}
-use Rattle.viper_top.specs.Orders.{Order, Check, Run, Upgrade, Assemble, Disasm}
+use Rattle.viper_top.specs.Orders.{Order, Check, Certify, Run, Upgrade, Assemble, Disasm}
 use Rattle.viper_top.specs.Contents.{Kind, Image, Plan, Value, Fault, title_of, limit_of, long_text, Spells, Breaks, fault_text}
 use Rattle.viper_top.specs.Works.{Work, Does, Reads, Walks, Awaits}
-use Rattle.viper_top.specs.Commands.{Task, Checks, Upgrades, Runs, Assembles, Lists, Ends, with_cert, with_script, assemble_work}
+use Rattle.viper_top.specs.Commands.{Task, Checks, Upgrades, Certifies, Runs, Assembles, Lists, Ends, with_cert, with_script, alone, assemble_work}
 use Rattle.viper_top.specs.Promises.{Given, Failed, Grew}
 
 -- as the program holds them
 abbrev pub order_view : Command → Order
 order_view (command.Check i p c) = Check i.now p.now c.now
 order_view (command.Run i p s n) = Run i.now p.now s.now n
+order_view (command.Certify i p c) = Certify i.now p.now c.now
 order_view (command.Upgrade i p c n) = Upgrade i.now p.now c.now n.now
 order_view (command.Assemble s i) = Assemble s.now i.now
 order_view (command.Disasm i) = Disasm i.now
@@ -53,6 +55,7 @@ left_by with_it.Upgrade = Upgrades
 -- what comes after a plan
 abbrev pub left_over : OverPlan → PlanLines → Work Task
 left_over (then.Cert cert then) plan = with_cert (left_by then) cert.now plan
+left_over then.Certify plan = alone Certifies plan
 left_over (then.Script script steps) plan = with_script script.now steps plan
 
 -- what comes after an image
@@ -80,14 +83,16 @@ count_left (stage.Source source) = 1
 abbrev pub task_of : Job → Task
 task_of (job.Check judged) = Checks judged.plan judged.cert
 task_of (job.Upgrade judged) = Upgrades judged.plan judged.cert
+task_of (job.Certify plan) = Certifies plan
 task_of (job.Run plan script steps) = Runs plan script steps
 task_of (job.Assemble image) = Assembles image
 task_of (job.Disasm image) = Lists image
 
--- what may be done: a certificate is judged within its limits
+-- what may be done: a certificate is judged within its limits, and searched for over a plan that was read
 abbrev pub MayBegin : Job → Type 0
 MayBegin (job.Check judged) = IsWithinLimits judged.cert
 MayBegin (job.Upgrade judged) = IsWithinLimits judged.cert
+MayBegin (job.Certify plan) = IsWellFormed plan
 MayBegin (job.Run plan script steps) = Unit {0}
 MayBegin (job.Assemble image) = Unit {0}
 MayBegin (job.Disasm image) = Unit {0}

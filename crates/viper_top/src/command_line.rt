@@ -19,6 +19,12 @@ pub enum Command<'a> {
         plan: &'a str,
         cert: &'a str,
     },
+    /// `certify IMAGE PLAN CERT`
+    Certify {
+        image: &'a str,
+        plan: &'a str,
+        cert: &'a str,
+    },
     /// `run IMAGE PLAN SCRIPT STEPS`
     Run {
         image: &'a str,
@@ -141,6 +147,11 @@ fn three_names<'a>(word: &str, a: &'a str, b: &'a str, c: &'a str) -> Option<Com
             plan: b,
             cert: c,
         }),
+        "certify" => Some(Command::Certify {
+            image: a,
+            plan: b,
+            cert: c,
+        }),
         _ => None,
     }
 }
@@ -152,6 +163,7 @@ impl<'a> Command<'a> {
     {
         match *self {
             Command::Check { .. } | Command::Run { .. } | Command::Disasm { .. } => None,
+            Command::Certify { cert, .. } => Some(cert),
             Command::Upgrade { new, .. } => Some(new),
             Command::Assemble { image, .. } => Some(image),
         }

@@ -7,6 +7,7 @@
 
 mod answer;
 mod assemble;
+mod certify;
 mod check;
 mod command_line;
 mod disasm;

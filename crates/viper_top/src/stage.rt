@@ -2,6 +2,7 @@ ghost use Rattle.std.specs.Prelude.{◌≡◌, ◌<◌, ◌≤◌, length, IfOk}
 ghost use Rattle.viper_top.specs.declared.stage.TheConstants.{IMAGE_LIMIT, PLAN_LIMIT, SCRIPT_LIMIT, SOURCE_LIMIT};
 ghost use Rattle.viper_top.specs.Contents.{Image as image_kind, Plan as plan_kind, Cert as cert_kind, Script as script_kind, Source as source_kind};
 ghost use Rattle.cert_format.specs.Limits.{IsWithinLimits};
+ghost use Rattle.memory_plan.specs.WellFormed.{IsWellFormed};
 ghost use Rattle.viper_top.specs.Works.{Does, Reads};
 ghost use Rattle.viper_top.specs.Commands.{work_of, Runs, Assembles};
 ghost use Rattle.viper_top.specs.Stages.{order_view, left, left_by, left_over, left_behind, count_left, IsSound, Follows, Asks, FitsIn, Took, TookIn, IsFewer};
@@ -47,6 +48,8 @@ pub enum OverCert {
 pub enum OverPlan<'a> {
     /// A certificate.
     Cert { cert: &'a str, then: OverCert },
+    /// Nothing more: a certificate is searched for.
+    Certify,
     /// A script, over which so many steps are run.
     Script { script: &'a str, steps: u64 },
 }
@@ -136,6 +139,9 @@ pub fn begin<'a>(command: &Command<'a>) -> Next<'a>
                 then: OverCert::Check,
             },
         )),
+        Command::Certify { image, plan, .. } => {
+            Next::Due(over_plan(image, plan, OverPlan::Certify))
+        }
         Command::Run {
             image,
             plan,
@@ -216,12 +222,14 @@ fn take_plan<'a>(
 
 /// What comes after a plan that was read.
 fn after_plan<'a>(plan: Plan, then: OverPlan<'a>) -> Next<'a>
+    requires { IsWellFormed plan }
     ensures follows { Follows (left_over then.entry plan) result }
     ensures fewer { IsFewer 2 result }
     ensures sound { IsSound result }
 {
     match then {
         OverPlan::Cert { cert, then } => Next::Due(Stage::Cert { plan, cert, then }),
+        OverPlan::Certify => Next::Ready(Task::Certify { plan }),
         OverPlan::Script { script, steps } => Next::Due(Stage::Script {
             plan,
             script,

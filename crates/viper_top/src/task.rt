@@ -4,6 +4,7 @@ ghost use Rattle.viper_top.specs.Stages.{task_of, ending_of, MayBegin};
 
 use crate::answer::Answer;
 use crate::assemble::write;
+use crate::certify::certify_plan;
 use crate::check::judge;
 use crate::disasm::list;
 use crate::judged::Judged;
@@ -24,6 +25,10 @@ pub enum Task {
     /// The certificate is written anew.
     Upgrade {
         judged: Judged,
+    },
+    /// A certificate of the plan is searched for.
+    Certify {
+        plan: Plan,
     },
     /// So many steps are run over the script.
     Run {
@@ -49,6 +54,7 @@ pub fn work(alloc: Global, task: Task) -> Result<Answer, Memory>
     match task {
         Task::Check { judged } => judge(alloc, &judged),
         Task::Upgrade { judged } => upgrade(alloc, &judged),
+        Task::Certify { plan } => certify_plan(alloc, &plan),
         Task::Run {
             plan,
             script,

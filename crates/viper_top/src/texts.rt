@@ -23,7 +23,7 @@ fn push_bound(text: &mut LineText, bound: Bound) -> Result<(), Memory>
 
 /// Appends the line of a marker.
 #[tactic(auto, unfolding(crate::specs::Texts::marker_line))]
-fn push_marker(text: &mut LineText, marker: Addr, bound: Bound) -> Result<(), Memory>
+pub(crate) fn push_marker(text: &mut LineText, marker: Addr, bound: Bound) -> Result<(), Memory>
     ensures { OnOk result (text.new ≡ text.old ++ marker_line (marker, bound)) }
 {
     text.plain("marker ")?;
@@ -45,7 +45,7 @@ pub fn yes_text(alloc: Global, bounds: &[(Addr, Bound)]) -> Result<Vec<u8>, Memo
 }
 
 /// The name of a condition.
-fn cond_text(cond: Cond) -> &'static str
+pub(crate) fn cond_text(cond: Cond) -> &'static str
     ensures { result.now ≡ cond_text cond }
 {
     match cond {

@@ -4,9 +4,9 @@ ghost use Rattle.viper_io.specs.Causes.{Rose, Wrote};
 ghost use Rattle.viper_io.specs.Held.{sure_stock, sure_output};
 ghost use Rattle.viper_top.specs.Certificates.{Certificate};
 ghost use Rattle.viper_top.specs.Endings.{EndsAnswered};
-ghost use Rattle.viper_top.specs.Orders.{Order, Check, Run, Upgrade, Assemble, Disasm, order_in, target_of, target_in};
+ghost use Rattle.viper_top.specs.Orders.{Order, Check, Certify, Run, Upgrade, Assemble, Disasm, order_in, target_of, target_in};
 ghost use Rattle.viper_top.specs.Check.{checked};
-ghost use Rattle.viper_top.specs.Headlines.{Verified, Declined, AreGiven, EndsAs, Followed, Upgraded, Assembled, Listed};
+ghost use Rattle.viper_top.specs.Headlines.{Verified, Declined, AreGiven, EndsAs, Certified, Uncertified, Followed, Upgraded, Assembled, Listed};
 ghost use Rattle.viper_top.specs.Promises.{OfOrder, Answered, FailedOutside, LeftFront, Keeps, IsQuiet, NothingFailed, NoFailures, Grew, Settled, WroteUsage};
 ghost use Rattle.viper_top.specs.Stages.{order_view};
 
@@ -105,8 +105,8 @@ fn answer_words<S: Store, K: Sink>(
 }
 
 /// Does what the words of the command line say, which are those after the program's name: so far
-/// `check IMAGE PLAN CERT`, `run IMAGE PLAN SCRIPT STEPS`, `upgrade IMAGE PLAN CERT NEW`,
-/// `assemble SRC IMAGE` and `disasm IMAGE`.
+/// `certify IMAGE PLAN CERT`, `check IMAGE PLAN CERT`, `run IMAGE PLAN SCRIPT STEPS`,
+/// `upgrade IMAGE PLAN CERT NEW`, `assemble SRC IMAGE` and `disasm IMAGE`.
 /// Each content is fetched once, in the row's order; what the command makes is placed, and its text
 /// goes to the sink in one put (README.md, "Statuses and texts"; docs/PROVED.md says the clauses in
 /// words).
@@ -139,6 +139,16 @@ pub fn viper_main<S: Store, K: Sink>(
         (K.output out.old) (K.output out.new)
         → result ≢ Status.Memory
         → EndsAs (checked lines certificate) result (K.output out.old) (K.output out.new) }
+    // certify, Done: the certificate of the plan's least solution is placed, and a check of it says yes.
+    ensures certify_done { (image plan cert : List ℕ)
+        → order_in words.now ≡ Some (Certify image plan cert) → result ≡ Status.Done
+        → Certified image plan cert (S.stock store.old) (S.stock store.new)
+        (K.output out.old) (K.output out.new) }
+    // certify, Refused: a cause that is true of the plan, over all candidates, was put.
+    ensures certify_refused { (image plan cert : List ℕ)
+        → order_in words.now ≡ Some (Certify image plan cert) → result ≡ Status.Refused
+        → Uncertified image plan (S.stock store.old) (S.stock store.new)
+        (K.output out.old) (K.output out.new) }
     // run, Done and Refused: the ending and the outputs put are those of the machine's run, which is one
     // of the plan's fair runs, and isn't stopped where local conditions hold with some certificate.
     ensures run_ends { (image plan script : List ℕ) → (steps : ℕ)

@@ -31,6 +31,12 @@ fn rows(alloc: Global) -> Result<Command<'static>, AllocError> {
         &["IMAGE", "PLAN", "CERT"],
         "IMAGE PLAN CERT: judges a certificate",
     )?;
+    let certify = row(
+        alloc,
+        "certify",
+        &["IMAGE", "PLAN", "CERT"],
+        "IMAGE PLAN CERT: searches for a certificate and writes it",
+    )?;
     let run = row(
         alloc,
         "run",
@@ -61,6 +67,7 @@ fn rows(alloc: Global) -> Result<Command<'static>, AllocError> {
         .disable_help_flag(true)
         .disable_version_flag(true)
         .subcommand(check)?
+        .subcommand(certify)?
         .subcommand(run)?
         .subcommand(upgrade)?
         .subcommand(assemble)?

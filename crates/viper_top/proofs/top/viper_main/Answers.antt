@@ -1,5 +1,6 @@
-use Rattle.viper_top.specs.Orders.{Check, Run, Upgrade, Assemble, Disasm}
+use Rattle.viper_top.specs.Orders.{Check, Certify, Run, Upgrade, Assemble, Disasm}
 use Rattle.viper_top.proofs.RunHeadline.{worked, followed}
+use Rattle.viper_top.proofs.CertifyHeadline.{certified, uncertified}
 use Rattle.viper_top.proofs.UpgradeHeadline.{made_again, unrefused}
 use Rattle.viper_top.proofs.TextHeadlines.{made_image, listed_image}
 use Rattle.viper_top.proofs.Apart.{of_order, ends_by, usage_by, complete_by}
@@ -18,6 +19,14 @@ pub returns-clause-check_complete : goal.returns-clause-check_complete
 returns-clause-check_complete g c = λ image plan cert lines certificate order given nothing enough.
     ends_as image plan cert _ _ lines certificate _ _ _ given
     (complete_by _ (Check image plan cert) c.answer_words.result _ _ _ _ (λ usage. (c.answer_words.ensures.usage usage).0) c.answer_words.ensures.answered c.answer_words.ensures.outside order given.told nothing enough)
+
+pub returns-clause-certify_done : goal.returns-clause-certify_done
+returns-clause-certify_done g c = λ image plan cert order done.
+    certified image plan cert _ _ _ _ (rw done at (of_order _ (Certify image plan cert) _ order (c.answer_words.ensures.answered (rw done tt))))
+
+pub returns-clause-certify_refused : goal.returns-clause-certify_refused
+returns-clause-certify_refused g c = λ image plan cert order refused.
+    uncertified image plan cert _ _ _ _ (rw refused at (of_order _ (Certify image plan cert) _ order (c.answer_words.ensures.answered (rw refused tt))))
 
 pub returns-clause-run_ends : goal.returns-clause-run_ends
 returns-clause-run_ends g c = λ image plan script steps order ends.
