@@ -1,6 +1,7 @@
 #!/usr/bin/env bash
-# Runs viper with these arguments, in the folder where it is called. Where the program is missing, or
-# a source is newer, it is built first: building is proving, and the shipped example must be certified.
+# Runs viper with these arguments, in the folder where it is called. Where the program is missing,
+# or a source is newer, it is built first: building is proving, and the shipped example must be
+# certified.
 # Ends with viper's own status, and with 125 where there is no program to run.
 set -u
 unset CDPATH
@@ -8,13 +9,15 @@ here=$(dirname "$(readlink -f "${BASH_SOURCE[0]}")") || exit 125
 crates=$here/crates
 program=$crates/viper_cli/out/viper_cli
 
-# Is there no program, or was a file in a source folder changed, added or taken away since it was built?
+# Is there no program, or was a file in a source folder changed, added or taken away since it was
+# built?
 is_due() {
     [ ! -x "$program" ] || [ -n "$(find "$crates" -mindepth 2 -name out -prune -o \
         -name must-fail -prune -o -newer "$program" -print -quit)" ]
 }
 
-# However a build ends: its processes and its folder go, and so does a program whose example wasn't certified.
+# However a build ends: its processes and its folder go, and so does a program whose example
+# wasn't certified.
 clean_up() {
     if [ -n "$builder" ]; then
         kill -TERM -- "-$builder" 2> "$work/kill"
@@ -24,9 +27,11 @@ clean_up() {
     rm -rf "$work"
 }
 
-# Proves and links, and checks the shipped example, in a group of processes that ends with this script.
+# Proves and links, and checks the shipped example, in a group of processes that ends with this
+# script.
 build() {
-    echo "viper: building, which proves each crate that the program stands on; README.md says how long that takes" >&2
+    echo "viper: building, which proves each crate that the program stands on;" \
+        "README.md says how long that takes" >&2
     touch "$work/begun"
     set -m
     (cd "$crates/viper_cli" && exec rt run -- check data/image data/plan data/cert) \
@@ -64,7 +69,13 @@ can_read() {
 
 # Can the file be written, or made in its folder?
 can_write() {
-    if [ -e "$1" ]; then [ -w "$1" ] && [ ! -d "$1" ]; else [ -d "$(dirname "$1")" ] && [ -w "$(dirname "$1")" ]; fi
+    local folder
+    folder=$(dirname "$1")
+    if [ -e "$1" ]; then
+        [ -w "$1" ] && [ ! -d "$1" ]
+    else
+        [ -d "$folder" ] && [ -w "$folder" ]
+    fi
 }
 
 # Status 4 has no text of its own: which name can't be read, or written? Else it was the system.
