@@ -1,0 +1,1 @@
+//! Views over a shelf and a page.
