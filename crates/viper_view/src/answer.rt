@@ -1,7 +1,7 @@
 //! What a view answers.
 
-use crate::status::Status;
 use std::alloc::{AllocError, AllocFailed};
+use viper_top::Status;
 use viper_word::Memory;
 
 /// A view that was made: whether viper's answer to what it shows is a yes, and its text.

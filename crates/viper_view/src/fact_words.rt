@@ -34,7 +34,7 @@ impl<'a> fmt::Display for Name<'a> {
     }
 }
 
-/// A comparison in words, as `A < 10` or `X unsigned >= 16`.
+/// A comparison in words, as `A < 10`, `A < (00210)` for a cell, or `X unsigned >= 16`.
 #[derive(Clone, Copy)]
 pub struct AtomWords<'a> {
     pub atom: Atom,
@@ -73,7 +73,7 @@ impl<'a> fmt::Display for AtomWords<'a> {
                     var: Var::Cell(i),
                     cells: self.cells,
                 };
-                write!(f, "{name}")
+                write!(f, "({name})")
             }
             Right::Const(word) if is_signed(kind) => write!(f, "{}", signed(word)),
             Right::Const(word) => write!(f, "{}", word.0),
@@ -112,7 +112,7 @@ impl<'a> fmt::Display for FlagWords<'a> {
     }
 }
 
-/// A link in words: `A = 00210 + 1` says that A is the cell at 00210 plus 1.
+/// A link in words: `A = (00210) + 1` says that A is the cell at 00210 plus 1.
 #[derive(Clone, Copy)]
 pub struct LinkWords<'a> {
     pub reg: Reg,
@@ -126,7 +126,7 @@ impl<'a> fmt::Display for LinkWords<'a> {
             var: Var::Cell(self.link.cell),
             cells: self.cells,
         };
-        write!(f, "{} = {name}", reg_name(self.reg))?;
+        write!(f, "{} = ({name})", reg_name(self.reg))?;
         if self.link.offset > 0 {
             write!(f, " + {}", self.link.offset)?;
         }

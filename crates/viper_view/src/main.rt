@@ -3,28 +3,41 @@
 #![tactic(auto)]
 
 mod answer;
+mod conditions;
+mod crowds;
+mod differences;
+mod explaining;
 mod fact_words;
+mod flows;
 mod form_words;
+mod illegal;
+mod judging;
+mod large;
 mod listing;
 mod number_words;
+mod operands;
 mod order;
 mod paths;
+mod places;
 mod reading;
-mod rule_words;
-mod status;
+mod results;
+mod steps;
+mod sweep;
 mod table;
+mod unranked;
+mod uses;
 mod verdicts;
 mod view;
 
 #[cfg(test)]
 mod tests;
 
-use crate::status::Status;
 use crate::view::view;
 use std::alloc::{AllocError, Global};
 use std::process::ExitCode;
 use std::{env, io};
 use viper_io::{FileStore, OutSink};
+use viper_top::Status;
 
 /// The words after the program's name.
 fn words_of<'a>(alloc: Global, args: &'a [String]) -> Result<Vec<&'a str>, AllocError> {

@@ -6,10 +6,10 @@ ghost use Rattle.memory_plan.specs.WellFormed.{IsWellFormed};
 ghost use Rattle.cert_format.specs.Limits.{IsWithinLimits};
 
 use crate::answer::Stop;
-use crate::rule_words::{cert_rule, image_rule, plan_rule};
 use cert_format::{Cert, CertFault, read_cert};
 use memory_plan::{Image, ImageFault, Plan, PlanFault, read_image, read_plan};
-use std::alloc::Global;
+use std::alloc::{AllocError, Global};
+use std::fmt::Debug;
 use viper_io::{FetchFault, Store};
 
 /// How many bytes an image has at the most.
@@ -39,9 +39,14 @@ fn bytes_of<S: Store>(
     }
 }
 
-/// A line of a content breaks a rule.
-fn at_line(alloc: Global, title: &str, line: u32, rule: &str) -> Result<Stop, Stop> {
-    Ok(Stop::Input(format!(in alloc; "{title} line {line} {rule}\n")?))
+/// A line of a content breaks a rule, which is told by its name.
+fn at_line<R: Debug + Drop>(
+    alloc: Global,
+    title: &str,
+    line: u32,
+    rule: R,
+) -> Result<Stop, AllocError> {
+    Ok(Stop::Input(format!(in alloc; "{title} line {line} {rule:?}\n")?))
 }
 
 /// The image under a name.
@@ -50,7 +55,7 @@ fn image_of<S: Store>(alloc: Global, store: &mut S, name: &str) -> Result<Image,
     match read_image(alloc, &bytes) {
         Ok(image) => Ok(image),
         Err(ImageFault::At { line, rule }) => {
-            Err(at_line(alloc, "image", line, image_rule(rule))?)
+            Err(at_line(alloc, "image", line, rule)?)
         }
         Err(ImageFault::Memory) => Err(Stop::Memory),
     }
@@ -69,7 +74,7 @@ pub fn program_of<S: Store>(
     let bytes = bytes_of(alloc, store, plan, PLAN_LIMIT, "plan")?;
     match read_plan(alloc, &bytes, &image) {
         Ok(plan) => Ok(plan),
-        Err(PlanFault::At { line, rule }) => Err(at_line(alloc, "plan", line, plan_rule(rule))?),
+        Err(PlanFault::At { line, rule }) => Err(at_line(alloc, "plan", line, rule)?),
         Err(PlanFault::Memory) => Err(Stop::Memory),
     }
 }
@@ -82,8 +87,7 @@ pub fn cert_of<S: Store>(alloc: Global, store: &mut S, name: &str) -> Result<Cer
     match read_cert(alloc, &bytes) {
         Ok(cert) => Ok(cert),
         Err(CertFault::At { offset, rule }) => {
-            let rule = cert_rule(rule);
-            Err(Stop::Input(format!(in alloc; "cert offset {offset} {rule}\n")?))
+            Err(Stop::Input(format!(in alloc; "cert offset {offset} {rule:?}\n")?))
         }
         Err(CertFault::Memory) => Err(Stop::Memory),
     }

@@ -19,9 +19,6 @@ use viper_word::{Addr, Memory};
 /// How wide a column may be at the most, in characters; a longer part pushes its row.
 const WIDEST: usize = 40;
 
-/// How wide the column of listing lines is: the longest line.
-const LINE: usize = 27;
-
 /// What is known at a node. None where it is bare.
 pub fn known(cert: &Cert, i: u32) -> Option<&Fact<Val>> {
     if i < cert.len() && !cert.is_bare(i) {
@@ -64,17 +61,24 @@ fn push_wide(text: &mut String, part: &str, width: usize) -> Result<(), Memory> 
     Ok(())
 }
 
-/// How wide the columns are: of the ranks, and of the successors.
+/// How wide the columns are: of the lines, of the ranks, and of the successors.
 #[derive(Clone, Copy)]
 struct Widths {
+    line: usize,
     rank: usize,
     next: usize,
 }
 
 /// The widths that the nodes need.
-fn widths_of(alloc: Global, cert: &Cert) -> Result<Widths, Memory> {
-    let mut widths = Widths { rank: 4, next: 4 };
+fn widths_of(alloc: Global, plan: &Plan, cert: &Cert) -> Result<Widths, Memory> {
+    let mut widths = Widths {
+        line: 4,
+        rank: 4,
+        next: 4,
+    };
     for i in 0..cert.len() {
+        let line = line_at(alloc, plan, cert.addr(i))?;
+        widths.line = widths.line.max(line.len()).min(WIDEST);
         let rank = rank_words(alloc, cert, i)?;
         let next = next_words(alloc, cert, i)?;
         widths.rank = widths.rank.max(rank.len()).min(WIDEST);
@@ -113,7 +117,7 @@ fn push_row(
     }
     push_marks(text, plan, cert, i)?;
     write!(text, "{i:>6}  ")?;
-    push_wide(text, line_at(alloc, plan, full.addr(i))?.as_str(), LINE)?;
+    push_wide(text, line_at(alloc, plan, full.addr(i))?.as_str(), widths.line)?;
     push_wide(text, rank_words(alloc, full, i)?.as_str(), widths.rank)?;
     push_wide(text, next_words(alloc, full, i)?.as_str(), widths.next)?;
     if let Some(fact) = known(full, i) {
@@ -135,10 +139,10 @@ fn push_rows(
     cert: &Cert,
     full: &Cert,
 ) -> Result<(), Memory> {
-    let widths = widths_of(alloc, full)?;
+    let widths = widths_of(alloc, plan, full)?;
     writeln!(text, "nodes {} (> start, * marker, ~ bare)", full.len())?;
     write!(text, "     node  ")?;
-    push_wide(text, "line", LINE)?;
+    push_wide(text, "line", widths.line)?;
     push_wide(text, "rank", widths.rank)?;
     push_wide(text, "next", widths.next)?;
     writeln!(text, "fact")?;

@@ -1,12 +1,14 @@
 //! A view, from the words of the command line to the text.
 
 use crate::answer::{Answer, Stop};
+use crate::explaining::explain;
+use crate::judging::judge;
 use crate::order::{Order, USAGE, order_of};
 use crate::reading::{cert_of, program_of};
-use crate::status::Status;
 use crate::table::table;
 use std::alloc::Global;
 use viper_io::{Sink, SinkFault, Store};
+use viper_top::Status;
 
 /// The answer to an order: its contents, each fetched once, in order, and then the view of them.
 fn answer<S: Store>(alloc: Global, store: &mut S, order: &Order<'_>) -> Result<Answer, Stop> {
@@ -24,11 +26,11 @@ fn answer<S: Store>(alloc: Global, store: &mut S, order: &Order<'_>) -> Result<A
         Order::Judge { image, plan, cert } => {
             let plan = program_of(alloc, store, image, plan)?;
             let cert = cert_of(alloc, store, cert)?;
-            Ok(table(alloc, &plan, &cert)?)
+            Ok(judge(alloc, &plan, &cert)?)
         }
         Order::Explain { image, plan } => {
-            let _plan = program_of(alloc, store, image, plan)?;
-            Err(Stop::Memory)
+            let plan = program_of(alloc, store, image, plan)?;
+            Ok(explain(alloc, &plan)?)
         }
     }
 }
