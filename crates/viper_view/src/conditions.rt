@@ -17,7 +17,10 @@ use viper_word::{Addr, Memory};
 fn push_no_code(text: &mut String, spot: &Spot<'_>) -> Result<(), Memory> {
     let at = spot.at.get();
     if at == Addr::LAST {
-        write!(text, "{at:05X} is the last address, and none comes after it")?;
+        write!(
+            text,
+            "{at:05X} is the last address, and none comes after it"
+        )?;
     } else {
         write!(text, "{at:05X} is not in code")?;
     }
@@ -60,14 +63,8 @@ fn push_numbers(
         Cond::C3 | Cond::C6 | Cond::C7 => push_uses(text, spot, instruction),
         Cond::C4 => push_overflow(text, spot, instruction),
         Cond::C5 => push_target(text, spot, instruction),
-        Cond::H1
-        | Cond::H2
-        | Cond::C1
-        | Cond::C2
-        | Cond::C8
-        | Cond::C9
-        | Cond::C10
-        | Cond::C11 => Ok(()),
+        Cond::H1 | Cond::H2 | Cond::C1 | Cond::C2 | Cond::C8 | Cond::C9 | Cond::C10 | Cond::C11 =>
+            Ok(()),
     }
 }
 

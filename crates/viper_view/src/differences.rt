@@ -24,7 +24,7 @@ fn link_includes(link: Option<Link>, other: Option<Link>) -> bool {
 }
 
 /// Does the flag say nothing, or the same as the other?
-fn flag_includes(flag: Flag, other: Flag) -> bool {
+fn flag_includes(flag: &Flag, other: &Flag) -> bool {
     match (flag, other) {
         (Flag::Any, _) | (Flag::One, Flag::One) => true,
         (Flag::Or(one), Flag::Or(two)) => one.items() == two.items(),
@@ -75,24 +75,29 @@ impl<'a> Both<'a> {
     fn push_flag(&self, text: &mut String) -> Result<(), Memory> {
         let flag = self.fact.flag();
         let other = self.other.flag();
-        if flag_includes(flag, other) {
+        if flag_includes(&flag, &other) {
             return Ok(());
         }
         let cells = self.cells;
-        let one = FlagWords { flag, cells };
-        let two = FlagWords { flag: other, cells };
+        let one = FlagWords { flag: &flag, cells };
+        let two = FlagWords {
+            flag: &other,
+            cells,
+        };
         writeln!(text, "  {} has {one}, {} gives {two}", self.has, self.gives)?;
         Ok(())
     }
 
     /// Appends a line for each part of the first that doesn't include that of the second.
     pub fn push_differences(&self, text: &mut String) -> Result<(), Memory> {
+        let fact = self.fact;
+        let given = self.other;
         for reg in &REGS {
-            let value = self.fact.reg(*reg);
-            self.push_value(text, Var::Reg(*reg), &value, &self.other.reg(*reg))?;
+            let value = fact.reg(*reg);
+            self.push_value(text, Var::Reg(*reg), &value, &given.reg(*reg))?;
         }
         let mut number: u8 = 0;
-        for (value, other) in self.fact.cells.iter().zip(self.other.cells.iter()) {
+        for (value, other) in fact.cells.iter().zip(given.cells.iter()) {
             self.push_value(text, Var::Cell(number), value, other)?;
             number = number.saturating_add(1);
         }

@@ -85,7 +85,7 @@ impl<'a> fmt::Display for AtomWords<'a> {
 /// holds exactly where B is 1.
 #[derive(Clone, Copy)]
 pub struct FlagWords<'a> {
-    pub flag: Flag,
+    pub flag: &'a Flag,
     pub cells: &'a [Addr],
 }
 
@@ -179,16 +179,13 @@ impl<'a> FactWords<'a> {
     }
 
     /// Writes the values of the registers and the cells.
-    fn values<W: fmt::Write>(
-        &self,
-        f: &mut fmt::Formatter<W>,
-        begun: &mut bool,
-    ) -> fmt::Result {
+    fn values<W: fmt::Write>(&self, f: &mut fmt::Formatter<W>, begun: &mut bool) -> fmt::Result {
+        let fact = self.fact;
         for reg in &REGS {
-            self.value(f, begun, Var::Reg(*reg), &self.fact.reg(*reg))?;
+            self.value(f, begun, Var::Reg(*reg), &fact.reg(*reg))?;
         }
         let mut number: u8 = 0;
-        for value in self.fact.cells.iter() {
+        for value in fact.cells.iter() {
             self.value(f, begun, Var::Cell(number), value)?;
             number = number.saturating_add(1);
         }
@@ -213,17 +210,16 @@ impl<'a> FactWords<'a> {
 
     /// Writes what B says, unless that is nothing.
     fn flag<W: fmt::Write>(&self, f: &mut fmt::Formatter<W>, begun: &mut bool) -> fmt::Result {
-        match self.fact.flag() {
-            Flag::Any => Ok(()),
-            flag => {
-                let words = FlagWords {
-                    flag,
-                    cells: self.cells,
-                };
-                separate(f, begun)?;
-                write!(f, "{words}")
-            }
+        let flag = self.fact.flag();
+        if matches!(&flag, Flag::Any) {
+            return Ok(());
         }
+        let words = FlagWords {
+            flag: &flag,
+            cells: self.cells,
+        };
+        separate(f, begun)?;
+        write!(f, "{words}")
     }
 }
 

@@ -47,15 +47,13 @@ fn first_twins(cert: &Cert, i: u32) -> Option<(u32, u32)> {
 }
 
 /// Appends why C8 fails over an outcome. False where it doesn't.
-fn push_flow(
-    text: &mut String,
-    cert: &Cert,
-    i: u32,
-    out: &Outcome<Val>,
-) -> Result<bool, Memory> {
+fn push_flow(text: &mut String, cert: &Cert, i: u32, out: &Outcome<Val>) -> Result<bool, Memory> {
     let at = out.target.get();
     let Some(next) = successor(cert, i, out.target) else {
-        writeln!(text, "C8: the step leads to {at:05X}, where no listed node stands")?;
+        writeln!(
+            text,
+            "C8: the step leads to {at:05X}, where no listed node stands"
+        )?;
         return Ok(true);
     };
     let Some(fact) = known(cert, next) else {
@@ -98,12 +96,7 @@ fn value_after(out: &Outcome<Val>, var: Var) -> Option<Val> {
 }
 
 /// Appends what becomes of a variable over the step.
-fn push_post(
-    text: &mut String,
-    cert: &Cert,
-    out: &Outcome<Val>,
-    var: Var,
-) -> Result<(), Memory> {
+fn push_post(text: &mut String, cert: &Cert, out: &Outcome<Val>, var: Var) -> Result<(), Memory> {
     let cells = cert.cells();
     let name = Name { var, cells };
     match post_of(&out.posts, var) {
@@ -111,7 +104,11 @@ fn push_post(
         Post::Plus(var, number) => {
             let from = Name { var, cells };
             let sign = if number < 0 { "-" } else { "+" };
-            writeln!(text, "  {name} becomes {from} {sign} {}", number.unsigned_abs())?;
+            writeln!(
+                text,
+                "  {name} becomes {from} {sign} {}",
+                number.unsigned_abs()
+            )?;
         }
         Post::Within => {
             if let Some(value) = value_after(out, var) {
@@ -149,9 +146,16 @@ fn push_rise(
         form: cert.rank(next),
         cells,
     };
-    write!(text, "C10: the rank is {from} here and {to} at {:05X}, node {next}; ", out.target.get())?;
+    write!(
+        text,
+        "C10: the rank is {from} here and {to} at {:05X}, node {next}; ",
+        out.target.get()
+    )?;
     if by >= 0 {
-        writeln!(text, "over the step it may change by {by}, and must fall by 1")?;
+        writeln!(
+            text,
+            "over the step it may change by {by}, and must fall by 1"
+        )?;
     }
     for (var, _) in cert.rank(next).terms() {
         push_post(text, cert, out, *var)?;
@@ -195,7 +199,10 @@ fn push_bounds(text: &mut String, cert: &Cert, i: u32, cond: Cond) -> Result<(),
         writeln!(text, "C11: the rank {words} may be {most}, over 2^63 - 1")?;
     } else if let Some(fact) = known(cert, i) {
         let least = lower(cert.rank(i), fact);
-        writeln!(text, "C9: the rank {words} may be {least}, and must be at least 1")?;
+        writeln!(
+            text,
+            "C9: the rank {words} may be {least}, and must be at least 1"
+        )?;
     }
     Ok(())
 }
@@ -211,7 +218,10 @@ fn push_steps(
 ) -> Result<(), Memory> {
     if cond == Cond::C8 {
         if let Some((one, two)) = first_twins(cert, i) {
-            writeln!(text, "C8: nodes {one} and {two} are listed, and stand at one address")?;
+            writeln!(
+                text,
+                "C8: nodes {one} and {two} are listed, and stand at one address"
+            )?;
             return Ok(());
         }
     }

@@ -58,6 +58,11 @@ impl<'a> fmt::Display for FormWords<'a> {
         if begun && constant == 0 {
             return Ok(());
         }
-        write!(f, "{}{}", sign(begun, constant < 0), constant.unsigned_abs())
+        write!(
+            f,
+            "{}{}",
+            sign(begun, constant < 0),
+            constant.unsigned_abs()
+        )
     }
 }

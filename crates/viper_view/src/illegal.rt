@@ -2,7 +2,9 @@
 
 use field_asm::{destinations, functions};
 use std::alloc::Global;
-use viper_decode::{Fields, destination, function, is_function, is_output, is_store, is_to_register};
+use viper_decode::{
+    Fields, destination, function, is_function, is_output, is_store, is_to_register,
+};
 use viper_word::Memory;
 
 /// A name of a table as text.
@@ -24,7 +26,10 @@ pub fn push_illegal(alloc: Global, text: &mut String, fields: Fields) -> Result<
         let to = text_of(alloc, destinations().name(fields.d as usize))?;
         write!(text, "CALL goes to P, PIF or PNB, and here to {to}")?;
     } else if is_function(fields) && fields.d >= destination::P {
-        write!(text, "a jump is made by CALL, READ, ADDS or SUBS, and here by {name}")?;
+        write!(
+            text,
+            "a jump is made by CALL, READ, ADDS or SUBS, and here by {name}"
+        )?;
     } else {
         write!(text, "the word is illegal")?;
     }

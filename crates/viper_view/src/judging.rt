@@ -49,12 +49,7 @@ fn push_start(
 }
 
 /// Appends where a start node doesn't include the start's fact.
-fn push_uncovered(
-    text: &mut String,
-    cert: &Cert,
-    i: u32,
-    start: &Fact<Val>,
-) -> Result<(), Memory> {
+fn push_uncovered(text: &mut String, cert: &Cert, i: u32, start: &Fact<Val>) -> Result<(), Memory> {
     let Some(fact) = known(cert, i) else {
         return Ok(());
     };
@@ -82,13 +77,9 @@ fn push_node(
     cond: Cond,
 ) -> Result<(), Memory> {
     match cond {
-        Cond::C1
-        | Cond::C2
-        | Cond::C3
-        | Cond::C4
-        | Cond::C5
-        | Cond::C6
-        | Cond::C7 => match known(cert, i) {
+        Cond::C1 | Cond::C2 | Cond::C3 | Cond::C4 | Cond::C5 | Cond::C6 | Cond::C7 => match known(
+            cert, i,
+        ) {
             None => Ok(()),
             Some(fact) => {
                 let spot = Spot {

@@ -59,7 +59,10 @@ fn push_large_number(text: &mut String, level: &Level) -> Result<(), Memory> {
     } else if level.weight > MOST_COEFFICIENT {
         writeln!(text, "  its weight is over 2^40")?;
     } else {
-        writeln!(text, "  a form has more than eight terms, or a number over its limit")?;
+        writeln!(
+            text,
+            "  a form has more than eight terms, or a number over its limit"
+        )?;
     }
     Ok(())
 }
@@ -86,7 +89,11 @@ fn push_level(
                 ("up", "greatest")
             };
             write!(text, "level: {name} goes {way}, {end} {}, ", level.low)?;
-            writeln!(text, "weight {}, greatest value {}", level.weight, level.greatest)?;
+            writeln!(
+                text,
+                "weight {}, greatest value {}",
+                level.weight, level.greatest
+            )?;
         }
     }
     push_addresses(alloc, text, solved, &level.keys)

@@ -6,12 +6,15 @@ mod answer;
 mod conditions;
 mod crowds;
 mod differences;
+mod drawing;
 mod explaining;
 mod fact_words;
 mod flows;
 mod form_words;
+mod graph;
 mod illegal;
 mod judging;
+mod lanes;
 mod large;
 mod listing;
 mod number_words;
@@ -24,13 +27,12 @@ mod results;
 mod steps;
 mod sweep;
 mod table;
+#[cfg(test)]
+mod tests;
 mod unranked;
 mod uses;
 mod verdicts;
 mod view;
-
-#[cfg(test)]
-mod tests;
 
 use crate::view::view;
 use std::alloc::{AllocError, Global};

@@ -52,9 +52,10 @@ fn range_value(range: &Range) -> Val {
 
 /// What is known of a tracked cell at an address. None where none is tracked there.
 fn cell_value(spot: &Spot<'_>, at: Addr) -> Option<Val> {
+    let fact = spot.fact;
     for (i, cell) in spot.cells.iter().enumerate() {
         if *cell == at {
-            return spot.fact.cells.get(i).copied();
+            return fact.cells.get(i).copied();
         }
     }
     None

@@ -71,8 +71,7 @@ fn best(plan: &Plan, cert: &Cert, met: &[bool], i: u32, wants_met: bool) -> Opti
     let mut found: Option<u32> = None;
     for number in cert.succ(i) {
         let next = *number;
-        if next < cert.len() && !plan.is_marker(cert.addr(next)) && is_met(met, next) == wants_met
-        {
+        if next < cert.len() && !plan.is_marker(cert.addr(next)) && is_met(met, next) == wants_met {
             found = Some(higher(cert, found, next));
         }
     }
@@ -126,7 +125,11 @@ fn push_way(text: &mut String, way: Way) -> Result<Option<u32>, Memory> {
             Ok(None)
         }
         Way::Marker(marker, Some(back)) => {
-            writeln!(text, ", again to node {back}, at last to marker {:05X}", marker.get())?;
+            writeln!(
+                text,
+                ", again to node {back}, at last to marker {:05X}",
+                marker.get()
+            )?;
             Ok(None)
         }
         Way::Round(back) => {

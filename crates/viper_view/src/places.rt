@@ -37,13 +37,7 @@ pub enum Wrong {
 /// The first address from `from` on that the place may be.
 pub fn next_address(fact: &Fact<Val>, place: &Place, from: u32) -> Option<Addr> {
     match place {
-        Place::At(at) => {
-            if from <= at.get() {
-                Some(*at)
-            } else {
-                None
-            }
-        }
+        Place::At(at) => { if from <= at.get() { Some(*at) } else { None } }
         Place::Index(at, reg) => {
             let base = i64::from(at.get());
             let found = fact.reg(*reg).least_from(i64::from(from) - base)?;

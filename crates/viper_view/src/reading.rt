@@ -54,9 +54,7 @@ fn image_of<S: Store>(alloc: Global, store: &mut S, name: &str) -> Result<Image,
     let bytes = bytes_of(alloc, store, name, IMAGE_LIMIT, "image")?;
     match read_image(alloc, &bytes) {
         Ok(image) => Ok(image),
-        Err(ImageFault::At { line, rule }) => {
-            Err(at_line(alloc, "image", line, rule)?)
-        }
+        Err(ImageFault::At { line, rule }) => { Err(at_line(alloc, "image", line, rule)?) }
         Err(ImageFault::Memory) => Err(Stop::Memory),
     }
 }

@@ -1,9 +1,7 @@
 //! Why C4 or C5 fails: a result that no word can hold, or that is no target.
 
 use crate::number_words::Numbers;
-use crate::operands::{
-    OperandIs, OperandName, Spot, operand_value, source_name, source_value,
-};
+use crate::operands::{OperandIs, OperandName, Spot, operand_value, source_name, source_value};
 use num_domain::NumDomain;
 use val_dom::Val;
 use viper_decode::{Function, Instruction, Operand, Shift, Source, Work};
@@ -42,7 +40,11 @@ fn push_sum(
         operand,
         value: &value,
     };
-    write!(text, "{} is {r} and {name} is {done}{is}; ", source_name(source))?;
+    write!(
+        text,
+        "{} is {r} and {name} is {done}{is}; ",
+        source_name(source)
+    )?;
     write!(text, "the {what} may be {number}")?;
     Ok(())
 }
@@ -51,7 +53,10 @@ fn push_sum(
 fn push_negative(text: &mut String, operand: &Operand) -> Result<(), Memory> {
     let name = OperandName { operand };
     let number = GREATEST_SIGNED + 1;
-    write!(text, "{name} is negated, and may be {LEAST_SIGNED}; the negative may be {number}")?;
+    write!(
+        text,
+        "{name} is negated, and may be {LEAST_SIGNED}; the negative may be {number}"
+    )?;
     Ok(())
 }
 
@@ -60,14 +65,19 @@ fn push_double(text: &mut String, spot: &Spot<'_>, source: Source) -> Result<(),
     let r = Numbers::of(&source_value(spot, source));
     let number = unheld(r.lo.saturating_mul(2), r.hi.saturating_mul(2));
     let name = source_name(source);
-    write!(text, "{name} is {r} and is doubled; the double may be {number}")?;
+    write!(
+        text,
+        "{name} is {r} and is doubled; the double may be {number}"
+    )?;
     Ok(())
 }
 
 /// Appends why C4 fails of some work.
 fn push_inexact(text: &mut String, spot: &Spot<'_>, work: &Work) -> Result<(), Memory> {
     match work {
-        Work::Apply(Function::Adds, source, operand) => push_sum(text, spot, *source, operand, true),
+        Work::Apply(Function::Adds, source, operand) => push_sum(
+            text, spot, *source, operand, true,
+        ),
         Work::Apply(Function::Subs, source, operand) => {
             push_sum(text, spot, *source, operand, false)
         }
@@ -84,9 +94,8 @@ pub fn push_overflow(
 ) -> Result<(), Memory> {
     match instruction {
         Instruction::Assign(_, work) | Instruction::Jump(_, work) => push_inexact(text, spot, work),
-        Instruction::Compare(_, _, _, _)
-        | Instruction::Output(_, _)
-        | Instruction::Store(_, _) => Ok(()),
+        Instruction::Compare(_, _, _, _) | Instruction::Output(_, _) | Instruction::Store(_, _) =>
+            Ok(()),
     }
 }
 

@@ -117,7 +117,11 @@ fn push_row(
     }
     push_marks(text, plan, cert, i)?;
     write!(text, "{i:>6}  ")?;
-    push_wide(text, line_at(alloc, plan, full.addr(i))?.as_str(), widths.line)?;
+    push_wide(
+        text,
+        line_at(alloc, plan, full.addr(i))?.as_str(),
+        widths.line,
+    )?;
     push_wide(text, rank_words(alloc, full, i)?.as_str(), widths.rank)?;
     push_wide(text, next_words(alloc, full, i)?.as_str(), widths.next)?;
     if let Some(fact) = known(full, i) {

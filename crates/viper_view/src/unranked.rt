@@ -190,7 +190,11 @@ fn push_staying(
                     var: first.var,
                     cells: solved.cells(),
                 };
-                write!(text, "{}{name}", if begun { ", " } else { "stay as they are: " })?;
+                write!(
+                    text,
+                    "{}{name}",
+                    if begun { ", " } else { "stay as they are: " }
+                )?;
                 begun = true;
             }
         }

@@ -10,19 +10,18 @@ use viper_decode::{Instruction, Operand, Place, Source, Work};
 use viper_word::{Addr, Memory};
 
 /// Appends the address; of one that is reached over an index, how, and which it may be.
-fn push_address(
-    text: &mut String,
-    spot: &Spot<'_>,
-    place: &Place,
-    at: Addr,
-) -> Result<(), Memory> {
+fn push_address(text: &mut String, spot: &Spot<'_>, place: &Place, at: Addr) -> Result<(), Memory> {
     let at = at.get();
     match place {
         Place::At(_) => write!(text, "{at:05X}")?,
         Place::Index(_, reg) => {
             let numbers = Numbers::of(&spot.fact.reg(*reg));
             let words = PlaceWords { place };
-            write!(text, "{} is {numbers}; {words} may be {at:05X}, which", reg_name(*reg))?;
+            write!(
+                text,
+                "{} is {numbers}; {words} may be {at:05X}, which",
+                reg_name(*reg)
+            )?;
         }
     }
     Ok(())
@@ -48,7 +47,10 @@ fn push_outside(
 fn push_range(text: &mut String, name: &str, value: &Val, range: &Range) -> Result<(), Memory> {
     let numbers = Numbers::of(value);
     let taken = Numbers::in_range(range);
-    write!(text, " takes {taken}, and {name} is {numbers}; {name} may be ")?;
+    write!(
+        text,
+        " takes {taken}, and {name} is {numbers}; {name} may be "
+    )?;
     if numbers.lo < range.lo {
         write!(text, "{}", numbers.lo)?;
     } else if numbers.hi > range.hi {

@@ -7,9 +7,7 @@ use viper_word::{Addr, Memory};
 /// Appends the line of a marker with its bound.
 pub fn push_bound(text: &mut String, marker: Addr, bound: Bound) -> Result<(), AllocError> {
     match bound {
-        Bound::Within(number) => {
-            writeln!(text, "marker {:05X} within {number}", marker.get())
-        }
+        Bound::Within(number) => { writeln!(text, "marker {:05X} within {number}", marker.get()) }
         Bound::Unreached => writeln!(text, "marker {:05X} unreached", marker.get()),
     }
 }
@@ -23,6 +21,9 @@ pub fn push_refusal(text: &mut String, refusal: &Refusal) -> Result<(), Memory> 
     };
     let at = refusal.addr.get();
     let cond = refusal.cond;
-    writeln!(text, "no {kind} {number} address {at:05X} condition {cond:?}")?;
+    writeln!(
+        text,
+        "no {kind} {number} address {at:05X} condition {cond:?}"
+    )?;
     Ok(())
 }

@@ -2,6 +2,7 @@
 
 use crate::answer::{Answer, Stop};
 use crate::explaining::explain;
+use crate::graph::graph;
 use crate::judging::judge;
 use crate::order::{Order, USAGE, order_of};
 use crate::reading::{cert_of, program_of};
@@ -21,7 +22,7 @@ fn answer<S: Store>(alloc: Global, store: &mut S, order: &Order<'_>) -> Result<A
         Order::Graph { image, plan, cert } => {
             let plan = program_of(alloc, store, image, plan)?;
             let cert = cert_of(alloc, store, cert)?;
-            Ok(table(alloc, &plan, &cert)?)
+            Ok(graph(alloc, &plan, &cert)?)
         }
         Order::Judge { image, plan, cert } => {
             let plan = program_of(alloc, store, image, plan)?;
