@@ -119,6 +119,7 @@ text{font-family:monospace;font-size:13px;fill:#222}
 .note{fill:#666}
 .no{fill:#b00020}
 .rank{fill:#0b5394}
+.number{fill:#666;text-anchor:end}
 .edge{fill:none;stroke:#555;stroke-width:1.2;marker-end:url(#head)}
 .dashed{stroke:#b45f06;stroke-dasharray:5 3}
 .node{fill:#f7f7f7;stroke:#999}

@@ -87,16 +87,16 @@ fn chosen(alloc: Global, arcs: &[Arc], down: bool) -> Result<Vec<Arc>, AllocErro
     Ok(found)
 }
 
-/// The label of a node: its number and its listing line.
+/// The listing line of a node; of no node nothing.
 fn label_of(alloc: Global, plan: &Plan, cert: &Cert, node: u32) -> Result<String, Memory> {
-    if node >= cert.len() {
-        return Ok(String::new(alloc));
+    if node < cert.len() {
+        line_at(alloc, plan, cert.addr(node))
+    } else {
+        Ok(String::new(alloc))
     }
-    let line = line_at(alloc, plan, cert.addr(node))?;
-    Ok(format!(in alloc; "{node:>5}  {line}")?)
 }
 
-/// How many characters the longest label and the longest rank have.
+/// How many characters the longest line and the longest rank have.
 #[derive(Clone, Copy)]
 struct Letters {
     label: usize,
@@ -113,9 +113,15 @@ fn letters_of(alloc: Global, plan: &Plan, cert: &Cert) -> Result<Letters, Memory
     Ok(letters)
 }
 
+/// How wide the numbers of nodes are.
+const NUMBERS: usize = 5 * LETTER;
+
 /// How wide the boxes are.
 fn box_width(letters: Letters) -> usize {
-    letters.label.saturating_mul(LETTER).saturating_add(GAP)
+    letters
+        .label
+        .saturating_mul(LETTER)
+        .saturating_add(NUMBERS + 2 * GAP)
 }
 
 /// The classes of the box of a node.
@@ -128,7 +134,36 @@ fn classes(plan: &Plan, cert: &Cert, node: u32) -> (&'static str, &'static str) 
     )
 }
 
-/// Appends a node: its box with what is known as its title, its label and its rank.
+/// Appends the texts of a node: its number, its line and, beside the box, its rank.
+fn push_labels(
+    alloc: Global,
+    out: &mut String,
+    plan: &Plan,
+    cert: &Cert,
+    frame: Frame,
+    width: usize,
+    middle: usize,
+    node: u32,
+) -> Result<(), Memory> {
+    let base = middle.saturating_add(4);
+    let numbers = frame.left.saturating_add(GAP / 2 + NUMBERS);
+    let number = format!(in alloc; "{node}")?;
+    push_text(out, numbers, base, "number", number.as_str())?;
+    let line = label_of(alloc, plan, cert, node)?;
+    push_text(
+        out,
+        numbers.saturating_add(GAP),
+        base,
+        "line",
+        line.as_str(),
+    )?;
+    let beside = frame.left.saturating_add(width).saturating_add(GAP);
+    let rank = rank_words(alloc, cert, node)?;
+    push_text(out, beside, base, "rank", rank.as_str())?;
+    Ok(())
+}
+
+/// Appends a node: its box, with what is known as its title, and its texts.
 fn push_node(
     alloc: Global,
     out: &mut String,
@@ -159,19 +194,7 @@ fn push_node(
         push_escaped(out, words.to_string(alloc)?.as_str())?;
     }
     writeln!(out, "</title></rect>")?;
-    let base = middle.saturating_add(4);
-    let label = label_of(alloc, plan, cert, node)?;
-    push_text(
-        out,
-        frame.left.saturating_add(GAP / 2),
-        base,
-        "line",
-        label.as_str(),
-    )?;
-    let beside = frame.left.saturating_add(width).saturating_add(GAP);
-    let rank = rank_words(alloc, cert, node)?;
-    push_text(out, beside, base, "rank", rank.as_str())?;
-    Ok(())
+    push_labels(alloc, out, plan, cert, frame, width, middle, node)
 }
 
 /// Appends the lines above the picture, each at its height.
