@@ -135,6 +135,22 @@ fn push_row(
     Ok(())
 }
 
+/// Appends the addresses of the cells, where there are some.
+fn push_cells(text: &mut String, cert: &Cert) -> Result<(), Memory> {
+    for (i, cell) in cert.cells().iter().enumerate() {
+        write!(
+            text,
+            "{}{:05X}",
+            if i == 0 { "cells " } else { ", " },
+            cell.get()
+        )?;
+    }
+    if !cert.cells().is_empty() {
+        writeln!(text, "")?;
+    }
+    Ok(())
+}
+
 /// Appends the heading and a row for each node.
 fn push_rows(
     alloc: Global,
@@ -144,6 +160,7 @@ fn push_rows(
     full: &Cert,
 ) -> Result<(), Memory> {
     let widths = widths_of(alloc, plan, full)?;
+    push_cells(text, full)?;
     writeln!(text, "nodes {} (> start, * marker, ~ bare)", full.len())?;
     write!(text, "     node  ")?;
     push_wide(text, "line", widths.line)?;
