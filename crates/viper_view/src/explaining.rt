@@ -27,15 +27,13 @@ fn push_success(text: &mut String, made: &Certified<Val>) -> Result<(), Memory> 
     Ok(())
 }
 
-/// Appends viper's line of a condition that fails, what is known there, and why it fails.
+/// Appends where a condition fails, what is known there, and why it fails.
 fn push_failing(
     alloc: Global,
     text: &mut String,
     plan: &Plan,
     failing: &Failing,
 ) -> Result<(), Memory> {
-    let key = KeyWords { key: &failing.key };
-    writeln!(text, "undischarged {key} {:?}", failing.cond)?;
     if let Some(from) = &failing.known.from {
         writeln!(text, "reached from {}", line_at(alloc, plan, from.addr)?)?;
     }
@@ -58,10 +56,13 @@ fn push_fault(
     requires { IsWellFormed plan.now }
 {
     match fault {
-        CertifyFault::Undischarged(_, _) => match first_failing(alloc, plan)? {
-            Some(failing) => push_failing(alloc, text, plan, &failing),
-            None => Err(Memory),
-        },
+        CertifyFault::Undischarged(key, cond) => {
+            writeln!(text, "undischarged {} {cond:?}", KeyWords { key })?;
+            match first_failing(alloc, plan)? {
+                Some(failing) => push_failing(alloc, text, plan, &failing),
+                None => Ok(()),
+            }
+        }
         CertifyFault::Nodes(keys) => push_nodes(alloc, text, plan, keys),
         CertifyFault::Unranked(edges) => push_unranked(alloc, text, plan, edges),
         CertifyFault::Large(nest) => push_large(alloc, text, plan, nest),

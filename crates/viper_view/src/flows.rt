@@ -151,12 +151,10 @@ fn push_rise(
         "C10: the rank is {from} here and {to} at {:05X}, node {next}; ",
         out.target.get()
     )?;
-    if by >= 0 {
-        writeln!(
-            text,
-            "over the step it may change by {by}, and must fall by 1"
-        )?;
-    }
+    writeln!(
+        text,
+        "over the step it may change by {by}, and must fall by 1"
+    )?;
     for (var, _) in cert.rank(next).terms() {
         push_post(text, cert, out, *var)?;
     }
