@@ -101,7 +101,7 @@ fn push_side(
     }
 }
 
-/// Appends the line of the spot, what is known there, and why the condition, of C1 to C7, fails of it.
+/// Appends the line of the spot, what is known there, and why the condition, of C1 to C7, fails.
 pub fn push_failure(
     alloc: Global,
     text: &mut String,

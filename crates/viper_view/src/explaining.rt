@@ -70,8 +70,8 @@ fn push_fault(
     }
 }
 
-/// Why `certify` refuses a plan: its own text, and the lines, facts and numbers behind it; or that it
-/// doesn't refuse (docs/VIEWING.md).
+/// Why `certify` refuses a plan: its own text, and the lines, facts and numbers behind it; or that
+/// it doesn't refuse (docs/VIEWING.md).
 pub fn explain(alloc: Global, plan: &Plan) -> Result<Answer, Memory>
     requires { IsWellFormed plan.now }
 {

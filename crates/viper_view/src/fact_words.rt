@@ -81,8 +81,8 @@ impl<'a> fmt::Display for AtomWords<'a> {
     }
 }
 
-/// What is known of B, in words: `B any`, `B 1`, `B 0`, or `B says` and the comparisons of which one
-/// holds exactly where B is 1.
+/// What is known of B, in words: `B any`, `B 1`, `B 0`, or `B says` and the comparisons of which
+/// one holds exactly where B is 1.
 #[derive(Clone, Copy)]
 pub struct FlagWords<'a> {
     pub flag: &'a Flag,

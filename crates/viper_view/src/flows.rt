@@ -232,7 +232,7 @@ fn push_steps(
     }
 }
 
-/// Appends the line of a node, what is known there, and why the condition, of C8 to C11, fails of it.
+/// Appends the line of a node, what is known there, and why the condition, of C8 to C11, fails.
 pub fn push_flow_failure(
     alloc: Global,
     text: &mut String,

@@ -271,8 +271,8 @@ fn heading_width(text: &str) -> usize {
     most.saturating_mul(LETTER).saturating_add(2 * GAP)
 }
 
-/// A certificate as an SVG: its nodes down the page in the order of their addresses, as it is filled,
-/// with their ranks; markers in colour, edges into markers dashed, and viper's answer above
+/// A certificate as an SVG: its nodes down the page in the order of their addresses, as it is
+/// filled, with their ranks; markers in colour, edges into markers dashed, and viper's answer above
 /// (docs/VIEWING.md).
 pub fn graph(alloc: Global, plan: &Plan, cert: &Cert) -> Result<Answer, Memory>
     requires { IsWithinLimits cert.now }

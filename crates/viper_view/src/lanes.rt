@@ -5,8 +5,8 @@ use std::alloc::{AllocError, Global};
 /// How many lanes there are at the most; arcs beyond share the last one.
 const MOST_LANES: usize = 40;
 
-/// An arc from a row to another, and the lane that it runs in, from 0 next to the rows. The order is
-/// by how many rows it passes.
+/// An arc from a row to another, and the lane that it runs in, from 0 next to the rows. The order
+/// is by how many rows it passes.
 #[derive(Clone, Copy, PartialEq, Eq, PartialOrd, Ord)]
 pub struct Arc {
     pub length: usize,

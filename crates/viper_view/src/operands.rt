@@ -100,8 +100,8 @@ fn value_over(spot: &Spot<'_>, place: &Place, is_input: bool) -> Option<Val> {
     all
 }
 
-/// The value of an operand (docs/METHOD.md, "The abstract step"). None where it may be at no address
-/// at which something is known.
+/// The value of an operand (docs/METHOD.md, "The abstract step"). None where it may be at no
+/// address at which something is known.
 pub fn operand_value(spot: &Spot<'_>, operand: &Operand) -> Option<Val> {
     match operand {
         Operand::Literal(number) => Some(Val::constant(i64::from(number.get()))),

@@ -49,8 +49,8 @@ enum Way {
     On(u32, Option<u32>),
     /// Only to nodes that it has, as this one.
     Round(u32),
-    /// To the marker at this address; before that, it may go round.
-    Marker(Addr, Option<u32>),
+    /// To the marker at the address of this number; before that, it may go round.
+    Marker(u32, Option<u32>),
     /// Nowhere.
     End,
 }
@@ -100,7 +100,7 @@ fn way_from(plan: &Plan, cert: &Cert, met: &[bool], i: u32) -> Way {
             _ => Way::On(next, None),
         },
         None => match marker_after(plan, cert, i) {
-            Some(marker) => Way::Marker(marker, round),
+            Some(marker) => Way::Marker(marker.get(), round),
             None => match round {
                 Some(back) => Way::Round(back),
                 None => Way::End,
@@ -121,14 +121,13 @@ fn push_way(text: &mut String, way: Way) -> Result<Option<u32>, Memory> {
             Ok(Some(next))
         }
         Way::Marker(marker, None) => {
-            writeln!(text, ", to marker {:05X}", marker.get())?;
+            writeln!(text, ", to marker {marker:05X}")?;
             Ok(None)
         }
         Way::Marker(marker, Some(back)) => {
             writeln!(
                 text,
-                ", again to node {back}, at last to marker {:05X}",
-                marker.get()
+                ", again to node {back}, at last to marker {marker:05X}"
             )?;
             Ok(None)
         }

@@ -23,17 +23,6 @@ pub enum Use {
     Output(Val),
 }
 
-/// A number that an address may be, and may not.
-#[derive(Clone, Copy)]
-pub enum Wrong {
-    /// It is below the first address.
-    Below(i64),
-    /// It is above the last address.
-    Above(i64),
-    /// It is an address where that may not be done.
-    At(Addr),
-}
-
 /// The first address from `from` on that the place may be.
 pub fn next_address(fact: &Fact<Val>, place: &Place, from: u32) -> Option<Addr> {
     match place {
@@ -41,8 +30,7 @@ pub fn next_address(fact: &Fact<Val>, place: &Place, from: u32) -> Option<Addr> 
         Place::Index(at, reg) => {
             let base = i64::from(at.get());
             let found = fact.reg(*reg).least_from(i64::from(from) - base)?;
-            let sum = found.checked_add(base)?;
-            Addr::new(u32::try_from(sum).ok()?)
+            address_of(found.checked_add(base)?)
         }
     }
 }
@@ -72,7 +60,7 @@ fn is_allowed(plan: &Plan, what: &Use, at: Addr) -> bool {
 }
 
 /// A number that isn't an address and that the place may be.
-fn first_outside(fact: &Fact<Val>, place: &Place) -> Option<Wrong> {
+fn first_outside(fact: &Fact<Val>, place: &Place) -> Option<i64> {
     match place {
         Place::At(_) => None,
         Place::Index(at, reg) => {
@@ -81,9 +69,9 @@ fn first_outside(fact: &Fact<Val>, place: &Place) -> Option<Wrong> {
             let low = numbers.lo.saturating_add(base);
             let high = numbers.hi.saturating_add(base);
             if low < 0 {
-                Some(Wrong::Below(low))
+                Some(low)
             } else if high > i64::from(Addr::LAST) {
-                Some(Wrong::Above(high))
+                Some(high)
             } else {
                 None
             }
@@ -91,8 +79,14 @@ fn first_outside(fact: &Fact<Val>, place: &Place) -> Option<Wrong> {
     }
 }
 
-/// The first number that the place may be and where that may not be done.
-pub fn first_wrong(plan: &Plan, fact: &Fact<Val>, place: &Place, what: &Use) -> Option<Wrong> {
+/// The address of a number. None where it is none.
+pub fn address_of(number: i64) -> Option<Addr> {
+    Addr::new(u32::try_from(number).ok()?)
+}
+
+/// A number that the place may be, and that is no address, or the first one where that may not be
+/// done.
+pub fn first_wrong(plan: &Plan, fact: &Fact<Val>, place: &Place, what: &Use) -> Option<i64> {
     if let Some(outside) = first_outside(fact, place) {
         return Some(outside);
     }
@@ -100,7 +94,7 @@ pub fn first_wrong(plan: &Plan, fact: &Fact<Val>, place: &Place, what: &Use) -> 
     for _ in 0..=Addr::LAST {
         let at = next_address(fact, place, from)?;
         if !is_allowed(plan, what, at) {
-            return Some(Wrong::At(at));
+            return Some(i64::from(at.get()));
         }
         from = at.get() + 1;
     }

@@ -2,6 +2,7 @@
 
 use crate::number_words::Numbers;
 use crate::operands::{OperandIs, OperandName, Spot, operand_value, source_name, source_value};
+use crate::places::address_of;
 use num_domain::NumDomain;
 use val_dom::Val;
 use viper_decode::{Function, Instruction, Operand, Shift, Source, Work};
@@ -139,7 +140,7 @@ fn push_made(text: &mut String, work: &Work) -> Result<(), Memory> {
 fn first_uncoded(spot: &Spot<'_>, value: &Val) -> Option<Addr> {
     let mut from = 0;
     for _ in 0..=Addr::LAST {
-        let at = Addr::new(u32::try_from(value.least_from(from)?).ok()?)?;
+        let at = address_of(value.least_from(from)?)?;
         if !spot.plan.in_code(at) {
             return Some(at);
         }

@@ -10,8 +10,8 @@ use val_dom::Val;
 use viper_decode::{Fields, decode};
 use viper_word::{Addr, Memory, Word};
 
-/// What comes of a fact at an address: its outcomes, or the first of C1 to C7 that fails. The fact is
-/// over these cells; of another one nothing comes.
+/// What comes of a fact at an address: its outcomes, or the first of C1 to C7 that fails. The fact
+/// is over these cells; of another one nothing comes.
 pub fn step(
     alloc: Global,
     plan: &Plan,

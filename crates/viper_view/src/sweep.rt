@@ -2,8 +2,10 @@
 //! hands out no fact, so the way there is gone once more, over the same calls and in the same order
 //! (docs/METHOD.md, "Candidates and solutions").
 
-use crate::steps::{copied, fields_at, step};
-use abs_step::{Cond, Outcome, start_fact};
+ghost use Rattle.std.specs.Prelude.{◌≡◌, length};
+
+use crate::steps::{copied, fields_at};
+use abs_step::{Cond, Outcome, Scratch, outcomes, start_fact};
 use flag_relation::{Fact, MOST_CELLS, Spare};
 use flow_recover::{Context, Key, cells_of, next_context, thresholds_of};
 use memory_plan::{Plan, Start};
@@ -95,7 +97,7 @@ impl Sweep {
     }
 
     /// Takes a key: gives what follows from its fact to the keys that this leads to, or answers the
-    /// condition that fails.
+    /// condition that fails. `scratch` has room for the cells.
     fn take(
         &mut self,
         alloc: Global,
@@ -103,27 +105,73 @@ impl Sweep {
         cells: &[Addr],
         thresholds: &Thresholds,
         key: &Key,
-    ) -> Result<Option<Cond>, Memory> {
+        scratch: &mut Scratch<Val>,
+    ) -> Result<Option<Cond>, Memory>
+        requires { scratch.old.cells ≡ length cells.now }
+        ensures { scratch.new.cells ≡ scratch.old.cells }
+    {
         let Some(known) = self.known.get(key) else {
             return Ok(None);
         };
-        let scratch = match step(alloc, plan, cells, key.addr, &known.fact)? {
-            Ok(scratch) => scratch,
-            Err(cond) => return Ok(Some(cond)),
-        };
-        for out in scratch.outcomes_in() {
+        if known.fact.count() != cells.len() {
+            return Ok(None);
+        }
+        if let Err(cond) = outcomes(plan, cells, key.addr, &known.fact, scratch) {
+            return Ok(Some(cond));
+        }
+        self.give_all(alloc, plan, thresholds, key, scratch.outcomes_in())?;
+        Ok(None)
+    }
+
+    /// Gives what follows from the fact at a key, which has these outcomes.
+    fn give_all(
+        &mut self,
+        alloc: Global,
+        plan: &Plan,
+        thresholds: &Thresholds,
+        key: &Key,
+        outs: &[Outcome<Val>],
+    ) -> Result<(), Memory> {
+        for out in outs {
             let fact = arriving(alloc, thresholds, key.addr, out)?;
             let to = next_context(key, fields_at(plan, key.addr), out.target);
             self.give(to, fact, Some(key.copied()))?;
+        }
+        Ok(())
+    }
+
+    /// Takes pending keys, the least one first, until a condition fails, and answers its key. None
+    /// where no key is pending any more.
+    fn run(
+        &mut self,
+        alloc: Global,
+        plan: &Plan,
+        cells: &[Addr],
+        thresholds: &Thresholds,
+        scratch: &mut Scratch<Val>,
+    ) -> Result<Option<(Key, Cond)>, Memory>
+        requires { scratch.old.cells ≡ length cells.now }
+    {
+        for _ in 0..u64::MAX {
+            let Some(key) = self.pending.pop_first() else {
+                return Ok(None);
+            };
+            if let Some(cond) = self.take(alloc, plan, cells, thresholds, &key, scratch)? {
+                return Ok(Some((key, cond)));
+            }
         }
         Ok(None)
     }
 }
 
-/// The first key at which a condition fails, with what is known there. None where none fails.
+/// A key at which a condition fails, with what is known there. None where none fails.
 pub fn first_failing(alloc: Global, plan: &Plan) -> Result<Option<Failing>, Memory> {
     let cells = cells_of(alloc, plan)?;
+    if cells.len() > MOST_CELLS as usize {
+        return Ok(None);
+    }
     let thresholds = thresholds_of(alloc, plan)?;
+    let mut scratch = Scratch::new(alloc, cells.len() as u8)?;
     let mut sweep = Sweep {
         known: BTreeMap::new(alloc),
         pending: BTreeSet::new(alloc),
@@ -131,21 +179,16 @@ pub fn first_failing(alloc: Global, plan: &Plan) -> Result<Option<Failing>, Memo
     for start in plan.starts() {
         sweep.start(alloc, plan, &cells, start)?;
     }
-    for _ in 0..u64::MAX {
-        let Some(key) = sweep.pending.pop_first() else {
-            return Ok(None);
-        };
-        if let Some(cond) = sweep.take(alloc, plan, &cells, &thresholds, &key)? {
-            let Some(known) = sweep.known.remove(&key) else {
-                return Ok(None);
-            };
-            return Ok(Some(Failing {
-                key,
-                known,
-                cond,
-                cells,
-            }));
-        }
-    }
-    Ok(None)
+    let Some((key, cond)) = sweep.run(alloc, plan, &cells, &thresholds, &mut scratch)? else {
+        return Ok(None);
+    };
+    let Some(known) = sweep.known.remove(&key) else {
+        return Ok(None);
+    };
+    Ok(Some(Failing {
+        key,
+        known,
+        cond,
+        cells,
+    }))
 }

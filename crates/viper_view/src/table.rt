@@ -1,5 +1,6 @@
 //! A certificate as a table.
 
+ghost use Rattle.std.specs.Prelude.{◌<◌, length, IfSome};
 ghost use Rattle.cert_format.specs.Limits.{IsWithinLimits};
 
 use crate::answer::Answer;
@@ -19,8 +20,10 @@ use viper_word::{Addr, Memory};
 /// How wide a column may be at the most, in characters; a longer part pushes its row.
 const WIDEST: usize = 40;
 
-/// What is known at a node. None where it is bare.
-pub fn known(cert: &Cert, i: u32) -> Option<&Fact<Val>> {
+/// What is known at a node. None where it is bare, or no node.
+pub fn known(cert: &Cert, i: u32) -> Option<&Fact<Val>>
+    ensures there { IfSome result (λ _. i < length cert.now.nodes) }
+{
     if i < cert.len() && !cert.is_bare(i) {
         Some(cert.fact(i))
     } else {
@@ -189,8 +192,8 @@ fn push_markers(
     Ok(())
 }
 
-/// A certificate as a person reads it: a row for each node, as it is filled, and for each marker its
-/// bound and the path on which the instructions are spent; or the first condition that fails
+/// A certificate as a person reads it: a row for each node, as it is filled, and for each marker
+/// its bound and the path on which the instructions are spent; or the first condition that fails
 /// (docs/VIEWING.md).
 pub fn table(alloc: Global, plan: &Plan, cert: &Cert) -> Result<Answer, Memory>
     requires { IsWithinLimits cert.now }

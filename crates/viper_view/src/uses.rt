@@ -3,7 +3,7 @@
 use crate::fact_words::reg_name;
 use crate::number_words::Numbers;
 use crate::operands::{Spot, source_name, source_value};
-use crate::places::{PlaceWords, Use, Wrong, first_wrong};
+use crate::places::{PlaceWords, Use, address_of, first_wrong};
 use memory_plan::Range;
 use val_dom::Val;
 use viper_decode::{Instruction, Operand, Place, Source, Work};
@@ -33,12 +33,16 @@ fn push_outside(
     spot: &Spot<'_>,
     place: &Place,
     number: i64,
-    side: &str,
 ) -> Result<(), Memory> {
     if let Place::Index(_, reg) = place {
         let numbers = Numbers::of(&spot.fact.reg(*reg));
         write!(text, "{} is {numbers}; ", reg_name(*reg))?;
     }
+    let side = if number < 0 {
+        "below 00000"
+    } else {
+        "above FFFFF"
+    };
     write!(text, "{} may be {number}, {side}", PlaceWords { place })?;
     Ok(())
 }
@@ -92,15 +96,14 @@ fn push_use(
     name: &str,
     place: &Place,
 ) -> Result<(), Memory> {
-    match first_wrong(spot.plan, spot.fact, place, what) {
-        Some(Wrong::At(at)) => {
-            push_address(text, spot, place, at)?;
-            push_reason(text, spot, what, name, at)
-        }
-        Some(Wrong::Below(number)) => push_outside(text, spot, place, number, "below 00000"),
-        Some(Wrong::Above(number)) => push_outside(text, spot, place, number, "above FFFFF"),
-        None => Ok(()),
-    }
+    let Some(number) = first_wrong(spot.plan, spot.fact, place, what) else {
+        return Ok(());
+    };
+    let Some(at) = address_of(number) else {
+        return push_outside(text, spot, place, number);
+    };
+    push_address(text, spot, place, at)?;
+    push_reason(text, spot, what, name, at)
 }
 
 /// Appends why an operand may not be read.
