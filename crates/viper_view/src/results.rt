@@ -5,7 +5,7 @@ use crate::operands::{OperandIs, OperandName, Spot, operand_value, source_name, 
 use crate::places::address_of;
 use num_domain::NumDomain;
 use val_dom::Val;
-use viper_decode::{Function, Instruction, Operand, Shift, Source, Work};
+use viper_decode::{Function, Instruction, Operand, Source, Work};
 use viper_word::{Addr, GREATEST_SIGNED, LEAST_SIGNED, Memory};
 
 /// How many targets a jump may have at the most.
@@ -110,7 +110,7 @@ fn target_value(spot: &Spot<'_>, work: &Work) -> Option<Val> {
             source_value(spot, *source).sub(&operand_value(spot, operand)?)
         }
         Work::Apply(_, _, operand) => operand_value(spot, operand),
-        Work::Move(Shift::Left, _) | Work::Move(_, _) => None,
+        Work::Move(_, _) => None,
     }
 }
 
