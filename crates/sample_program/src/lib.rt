@@ -6,5 +6,5 @@ mod loops;
 mod plan;
 mod words;
 
-pub use loops::Loops;
+pub use loops::{Loops, MOST_LOOPS};
 pub use plan::sample_plan;

@@ -5,7 +5,7 @@ ghost use Rattle.std.specs.Prelude.{◌≡◌, ◌≤◌, nat_le, ◌&&◌, if�
 use std::marker::Model;
 
 /// How many loops a sample has at the most.
-const MOST_LOOPS: u64 = 1_000;
+pub const MOST_LOOPS: u64 = 1_000;
 
 /// How many loops a sample has, from 1 to 1,000. Contracts see it as that number.
 #[derive(Clone, Copy, Debug, PartialEq, Eq)]

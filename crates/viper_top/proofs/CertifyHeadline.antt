@@ -50,7 +50,7 @@ plan_read image plan s0 s1 given e g fine walks =
     }
 
 -- a yes comes where all local conditions hold
-says_yes : (lines : PlanLines) (c : Certificate) → Local lines c → checked lines c ≡ done (yes_text (bounds_of lines c))
+pub says_yes : (lines : PlanLines) (c : Certificate) → Local lines c → checked lines c ≡ done (yes_text (bounds_of lines c))
 unfolding checked
 says_yes lines c local = ap verdict_ending ((exact vals lines once (full lines c)).yes local)
 
@@ -60,7 +60,7 @@ done_is_not_input e = cc
 refused_is_not_input : Refused ≡ Input → ⊥
 refused_is_not_input e = cc
 
-done_is_not_refused : Done ≡ Refused → ⊥
+pub done_is_not_refused : Done ≡ Refused → ⊥
 done_is_not_refused e = cc
 
 -- ---- Done

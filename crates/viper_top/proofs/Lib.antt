@@ -11,3 +11,4 @@ pub mod OneEnding
 pub mod UpgradeHeadline
 pub mod CertifyEndings
 pub mod CertifyHeadline
+pub mod SampleHeadline

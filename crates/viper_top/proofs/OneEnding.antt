@@ -7,7 +7,7 @@ use Rattle.memory_plan.proofs.OneValue.{image_reading, plan_reading}
 use Rattle.field_asm.proofs.OneSource.{source_reading}
 use Rattle.peripheral_run.proofs.OneScript.{script_reading}
 use Rattle.viper_top.specs.Endings.{Ending, input}
-use Rattle.viper_top.specs.Orders.{Order, Check, Certify, Run, Upgrade, Assemble, Disasm}
+use Rattle.viper_top.specs.Orders.{Order, Check, Certify, Run, Upgrade, Assemble, Disasm, Sample}
 use Rattle.viper_top.specs.Contents.{Kind, Image, Plan, Cert, Script, Source, Value, Fault, AtLine, AtByte, limit_of, Spells, Breaks, image_rule, plan_rule, cert_rule, script_rule, source_rule, line_text, offset_text, fault_text}
 use Rattle.viper_top.specs.Works.{Work, Does, Reads, Comes}
 use Rattle.viper_top.specs.Commands.{Task, Checks, Upgrades, Runs, Assembles, Lists, over_plan, with_cert, with_script}
@@ -121,5 +121,6 @@ one_ending (Upgrade image plan cert new) fixed holds e f =
     (λ lines. after_one holds Cert cert (λ c. Does (Upgrades lines c)) e f cert_once (λ spelling c spelled a b. a.is ∙ sym b.is))
 one_ending (Assemble source image) fixed holds e f =
     after_one holds Source source (λ words. Does (Assembles words)) e f source_once (λ bytes words is a b. a ∙ sym b)
+one_ending (Sample loops) fixed holds e f = absurd fixed
 one_ending (Disasm image) fixed holds e f =
     after_one holds Image image (λ words. Does (Lists words)) e f image_once (λ bytes words is a b. a ∙ sym b)

@@ -5,7 +5,7 @@ use Rattle.memory_plan.specs.Plans.{PlanLines}
 use Rattle.peripheral_run.specs.Scripts.{Scripted}
 use Rattle.viper_top.specs.Certificates.{Certificate}
 use Rattle.viper_top.specs.Endings.{Ending}
-use Rattle.viper_top.specs.Orders.{Order, Check, Certify, Run, Upgrade, Assemble, Disasm}
+use Rattle.viper_top.specs.Orders.{Order, Check, Certify, Run, Upgrade, Assemble, Disasm, Sample}
 use Rattle.viper_top.specs.Contents.{Image, Plan, Cert, Script, Source}
 use Rattle.viper_top.specs.Works.{Work, Does, Reads}
 use Rattle.viper_top.specs.Check.{checked}
@@ -14,6 +14,7 @@ use Rattle.viper_top.specs.Assemble.{assembled}
 use Rattle.viper_top.specs.Disasm.{listed}
 use Rattle.viper_top.specs.Upgrade.{EndsUpgraded}
 use Rattle.viper_top.specs.Certify.{Certifies as CertifiesTo}
+use Rattle.viper_top.specs.Sample.{Samples as SamplesTo}
 
 -- what is to be done once all is read
 pub data Task : Type 0 where
@@ -23,6 +24,7 @@ pub data Task : Type 0 where
   Runs : PlanLines → Scripted → ℕ → Task
   Assembles : ImageWords → Task
   Lists : ImageWords → Task
+  Samples : (loops : ℕ) → Task
 
 -- how a task may end
 abbrev pub Ends : Task → Ending → Type 0
@@ -32,6 +34,7 @@ Ends (Certifies plan) ending = CertifiesTo plan ending
 Ends (Runs plan script steps) ending = ending ≡ ran plan script steps
 Ends (Assembles words) ending = ending ≡ assembled words
 Ends (Lists words) ending = ending ≡ listed words
+Ends (Samples loops) ending = SamplesTo loops ending
 
 -- an image, and a plan over it
 abbrev pub over_plan : List ℕ → List ℕ → (PlanLines → Work Task) → Work Task
@@ -61,3 +64,4 @@ work_of (Run image plan script steps) = over_plan image plan (with_script script
 work_of (Upgrade image plan cert new) = over_plan image plan (with_cert Upgrades cert)
 work_of (Assemble source image) = assemble_work source
 work_of (Disasm image) = Reads Image image (λ words. Does (Lists words))
+work_of (Sample loops) = Does (Samples loops)

@@ -14,7 +14,9 @@ use Rattle.val_dom.specs.Vals.{vals}
 use Rattle.certifier.specs.Made.{IsMade}
 use Rattle.viper_top.specs.Endings.{Ending, done}
 use Rattle.viper_top.specs.Check.{checked}
+use Rattle.sample_program.specs.Samples.{sample_plan}
 use Rattle.viper_top.specs.Certify.{certified_text, EndsRefused}
+use Rattle.viper_top.specs.Sample.{numbers_text}
 use Rattle.memory_plan.specs.Images.{ImageWords, IsImage, image_text}
 use Rattle.memory_plan.specs.PlanText.{IsPlan}
 use Rattle.peripheral_run.specs.Scripts.{Scripted, IsScript}
@@ -164,6 +166,25 @@ pub record Uncertified (image plan : List ℕ) (before now : Stock) (out_before 
   pub read : ArePlanned image plan before now lines
   pub ending : Ending
   pub refused_so : EndsRefused lines ending
+  pub put : Wrote out_before.text ending.text out_now.text
+
+-- ---- sample
+
+-- Done: nothing was handed out; the certificate is that of the sample's plan, which a check accepts, and its
+-- numbers were put.
+pub record Sampled (loops : ℕ) (before now : Stock) (out_before out_now : Output) : Type 0 where
+  pub handed : now.handed ≡ before.handed
+  pub certificate : Certificate
+  pub made_of : IsMade vals (sample_plan loops) certificate
+  pub local : Local (sample_plan loops) certificate
+  pub checks : checked (sample_plan loops) certificate ≡ done (yes_text (bounds_of (sample_plan loops) certificate))
+  pub put : Wrote out_before.text (numbers_text loops certificate) out_now.text
+
+-- Refused: a cause that is true of the sample's plan, and its text was put.
+pub record Unsampled (loops : ℕ) (before now : Stock) (out_before out_now : Output) : Type 0 where
+  pub handed : now.handed ≡ before.handed
+  pub ending : Ending
+  pub refused_so : EndsRefused (sample_plan loops) ending
   pub put : Wrote out_before.text ending.text out_now.text
 
 -- ---- upgrade

@@ -14,3 +14,4 @@ pub mod Assemble
 pub mod Disasm
 pub mod Upgrade
 pub mod Certify
+pub mod Sample

@@ -6,7 +6,7 @@ use Rattle.viper_io.specs.declared.fault.Call.TheVariants.{Fetch, Place}
 use Rattle.viper_top.specs.declared.status.Status.{Status}
 use Rattle.viper_top.specs.declared.status.Status.TheVariants.{Done, Refused, Usage, Input, Outside, Memory}
 use Rattle.viper_top.specs.Endings.{Ending}
-use Rattle.viper_top.specs.Orders.{Order, Check, Certify, Run, Upgrade, Assemble, Disasm, target_of}
+use Rattle.viper_top.specs.Orders.{Order, Check, Certify, Run, Upgrade, Assemble, Disasm, Sample, target_of}
 use Rattle.viper_top.specs.Contents.{limit_of}
 use Rattle.viper_top.specs.Works.{Work, Does, Reads, Comes, Walks, Awaits}
 use Rattle.viper_top.specs.Commands.{Task, Ends, work_of}
@@ -172,6 +172,7 @@ HasFixedEnding (Run image plan script steps) = Unit {0}
 HasFixedEnding (Upgrade image plan cert new) = Unit {0}
 HasFixedEnding (Assemble source image) = Unit {0}
 HasFixedEnding (Disasm image) = Unit {0}
+HasFixedEnding (Sample loops) = ⊥
 
 -- The contents that names hold lead the command to one ending.
 abbrev pub HasOneEnding : Order → Type 0

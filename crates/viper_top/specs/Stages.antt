@@ -26,10 +26,10 @@ use Rattle.viper_top.specs.declared.task.Task.{Task as Job}
 use Rattle.viper_top.specs.declared.task.Task.TheVariants as job
 use Rattle.viper_top.specs.Certificates.{Certificate}
 use Rattle.viper_top.specs.Endings.{Ending, done, made, refused, input}
-use Rattle.viper_top.specs.Orders.{Order, Check, Certify, Run, Upgrade, Assemble, Disasm}
+use Rattle.viper_top.specs.Orders.{Order, Check, Certify, Run, Upgrade, Assemble, Disasm, Sample}
 use Rattle.viper_top.specs.Contents.{Kind, Image, Plan, Value, Fault, title_of, limit_of, long_text, Spells, Breaks, fault_text}
 use Rattle.viper_top.specs.Works.{Work, Does, Reads, Walks, Awaits}
-use Rattle.viper_top.specs.Commands.{Task, Checks, Upgrades, Certifies, Runs, Assembles, Lists, Ends, with_cert, with_script, alone, assemble_work}
+use Rattle.viper_top.specs.Commands.{Task, Checks, Upgrades, Certifies, Runs, Assembles, Lists, Samples, Ends, with_cert, with_script, alone, assemble_work}
 use Rattle.viper_top.specs.Promises.{Given, Failed, Grew}
 
 -- as the program holds them
@@ -40,6 +40,7 @@ order_view (command.Certify i p c) = Certify i.now p.now c.now
 order_view (command.Upgrade i p c n) = Upgrade i.now p.now c.now n.now
 order_view (command.Assemble s i) = Assemble s.now i.now
 order_view (command.Disasm i) = Disasm i.now
+order_view (command.Sample n) = Sample n
 
 abbrev pub ending_of : Answer → Ending
 ending_of (answer.Done text) = done text.items
@@ -87,6 +88,7 @@ task_of (job.Certify plan) = Certifies plan
 task_of (job.Run plan script steps) = Runs plan script steps
 task_of (job.Assemble image) = Assembles image
 task_of (job.Disasm image) = Lists image
+task_of (job.Sample loops) = Samples loops
 
 -- what may be done: a certificate is judged within its limits, and searched for over a plan that was read
 abbrev pub MayBegin : Job → Type 0
@@ -96,6 +98,7 @@ MayBegin (job.Certify plan) = IsWellFormed plan
 MayBegin (job.Run plan script steps) = Unit {0}
 MayBegin (job.Assemble image) = Unit {0}
 MayBegin (job.Disasm image) = Unit {0}
+MayBegin (job.Sample loops) = Unit {0}
 
 -- what is ready may be done
 abbrev pub IsSound : Next → Type 0

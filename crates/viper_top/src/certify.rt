@@ -28,7 +28,7 @@ use val_dom::Val;
 use viper_word::{Addr, Memory};
 
 /// Appends a line for each marker.
-fn push_markers(text: &mut LineText, bounds: &[(Addr, Bound)]) -> Result<(), Memory>
+pub(crate) fn push_markers(text: &mut LineText, bounds: &[(Addr, Bound)]) -> Result<(), Memory>
     ensures { OnOk result (text.new ≡ text.old ++ flat_map marker_line bounds.now) }
 {
     for (marker, bound) in bounds {
@@ -170,7 +170,7 @@ fn placed(alloc: Global, made: &Certified<Val>) -> Result<Answer, Memory>
 }
 
 /// Refused, with the text of its cause. Want of memory has none.
-fn refused(alloc: Global, fault: &CertifyFault) -> Result<Answer, Memory>
+pub(crate) fn refused(alloc: Global, fault: &CertifyFault) -> Result<Answer, Memory>
     ensures cause { IfOk result (λ a. ending_of a ≡ refused_ending (refusal_text fault.now)) }
     ensures not_memory { IfOk result (λ a. fault.now ≢ fault_kinds.Memory) }
 {

@@ -1,11 +1,15 @@
 ghost use Rattle.std.specs.Prelude.{◌≡◌, option_map};
-ghost use Rattle.viper_top.specs.Orders.{is_plain, order_in, one_name, two_names, three_names, steps_of, four_words, target_of};
+ghost use Rattle.viper_top.specs.Orders.{is_plain, order_in, loops_of, one_word, two_names, three_names, steps_of, four_words, target_of};
 ghost use Rattle.viper_top.specs.Stages.{order_view};
 
 use memory_plan::natural;
+use sample_program::Loops;
 
 /// How many digits a number of steps has at the most.
 const STEPS_DIGITS: usize = 7;
+
+/// How many digits a number of loops has at the most.
+const LOOPS_DIGITS: usize = 4;
 
 /// How many steps a run has at the most.
 const MOST_STEPS: u64 = 1_000_000;
@@ -48,6 +52,10 @@ pub enum Command<'a> {
     Disasm {
         image: &'a str,
     },
+    /// `sample N`
+    Sample {
+        loops: Loops,
+    },
 }
 
 /// Is the word a name: not empty, and no option?
@@ -65,7 +73,7 @@ pub fn command_of<'a>(words: &[&'a str]) -> Option<Command<'a>>
     ensures { option_map order_view result ≡ order_in words.now }
 {
     match words {
-        [word, a] if is_plain(a) => one_name(word, a),
+        [word, a] if is_plain(a) => one_word(word, a),
         [word, a, b] if is_plain(a) && is_plain(b) => two_names(word, a, b),
         [word, a, b, c] if is_plain(a) && is_plain(b) && is_plain(c) => three_names(word, a, b, c),
         [word, a, b, c, d] if is_plain(a) && is_plain(b) && is_plain(c) => {
@@ -114,12 +122,25 @@ fn four_words<'a>(word: &str, a: &'a str, b: &'a str, c: &'a str, d: &'a str) ->
     }
 }
 
-/// The command of this word with one name.
-fn one_name<'a>(word: &str, a: &'a str) -> Option<Command<'a>>
-    ensures { option_map order_view result ≡ one_name word.now a.now }
+/// A number of loops, from 1 to 1,000 in one to four digits. None exactly where the word is none.
+fn loops_of(word: &str) -> Option<Loops>
+    ensures { result ≡ loops_of word.now }
+{
+    if word.len() > LOOPS_DIGITS {
+        return None;
+    }
+    Loops::new(natural(word.as_bytes())?)
+}
+
+/// The command of this word with one word behind it.
+fn one_word<'a>(word: &str, a: &'a str) -> Option<Command<'a>>
+    ensures { option_map order_view result ≡ one_word word.now a.now }
 {
     match word {
         "disasm" => Some(Command::Disasm { image: a }),
+        "sample" => Some(Command::Sample {
+            loops: loops_of(a)?,
+        }),
         _ => None,
     }
 }
@@ -162,7 +183,10 @@ impl<'a> Command<'a> {
         ensures { option_map (λ n. n.now) result ≡ target_of (order_view self.now) }
     {
         match *self {
-            Command::Check { .. } | Command::Run { .. } | Command::Disasm { .. } => None,
+            Command::Check { .. }
+            | Command::Run { .. }
+            | Command::Disasm { .. }
+            | Command::Sample { .. } => None,
             Command::Certify { cert, .. } => Some(cert),
             Command::Upgrade { new, .. } => Some(new),
             Command::Assemble { image, .. } => Some(image),

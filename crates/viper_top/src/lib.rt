@@ -17,6 +17,7 @@ mod laws;
 mod reading;
 mod rules;
 mod run;
+mod sample;
 mod stage;
 mod status;
 mod task;

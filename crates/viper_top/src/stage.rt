@@ -166,6 +166,7 @@ pub fn begin<'a>(command: &Command<'a>) -> Next<'a>
             image,
             then: OverImage::List,
         }),
+        Command::Sample { loops } => Next::Ready(Task::Sample { loops }),
     }
 }
 

@@ -9,9 +9,11 @@ use crate::check::judge;
 use crate::disasm::list;
 use crate::judged::Judged;
 use crate::run::follow;
+use crate::sample::sample;
 use crate::upgrade::upgrade;
 use memory_plan::{Image, Plan};
 use peripheral_run::Script;
+use sample_program::Loops;
 use std::alloc::Global;
 use viper_word::Memory;
 
@@ -44,6 +46,10 @@ pub enum Task {
     Disasm {
         image: Image,
     },
+    /// A program of so many loops is certified.
+    Sample {
+        loops: Loops,
+    },
 }
 
 /// Does it: how the command ends.
@@ -62,5 +68,6 @@ pub fn work(alloc: Global, task: Task) -> Result<Answer, Memory>
         } => follow(alloc, &plan, &script, steps),
         Task::Assemble { image } => write(alloc, &image),
         Task::Disasm { image } => list(alloc, &image),
+        Task::Sample { loops } => sample(alloc, loops),
     }
 }

@@ -4,9 +4,9 @@ ghost use Rattle.viper_io.specs.Causes.{Rose, Wrote};
 ghost use Rattle.viper_io.specs.Held.{sure_stock, sure_output};
 ghost use Rattle.viper_top.specs.Certificates.{Certificate};
 ghost use Rattle.viper_top.specs.Endings.{EndsAnswered};
-ghost use Rattle.viper_top.specs.Orders.{Order, Check, Certify, Run, Upgrade, Assemble, Disasm, order_in, target_of, target_in};
+ghost use Rattle.viper_top.specs.Orders.{Order, Check, Certify, Run, Upgrade, Assemble, Disasm, Sample, order_in, target_of, target_in};
 ghost use Rattle.viper_top.specs.Check.{checked};
-ghost use Rattle.viper_top.specs.Headlines.{Verified, Declined, AreGiven, EndsAs, Certified, Uncertified, Followed, Upgraded, Assembled, Listed};
+ghost use Rattle.viper_top.specs.Headlines.{Verified, Declined, AreGiven, EndsAs, Certified, Uncertified, Sampled, Unsampled, Followed, Upgraded, Assembled, Listed};
 ghost use Rattle.viper_top.specs.Promises.{OfOrder, Answered, FailedOutside, LeftFront, Keeps, IsQuiet, NothingFailed, NoFailures, Grew, Settled, WroteUsage};
 ghost use Rattle.viper_top.specs.Stages.{order_view};
 
@@ -104,9 +104,9 @@ fn answer_words<S: Store, K: Sink>(
     }
 }
 
-/// Does what the words of the command line say, which are those after the program's name: so far
+/// Does what the words of the command line say, which are those after the program's name:
 /// `certify IMAGE PLAN CERT`, `check IMAGE PLAN CERT`, `run IMAGE PLAN SCRIPT STEPS`,
-/// `upgrade IMAGE PLAN CERT NEW`, `assemble SRC IMAGE` and `disasm IMAGE`.
+/// `upgrade IMAGE PLAN CERT NEW`, `assemble SRC IMAGE`, `disasm IMAGE` and `sample N`.
 /// Each content is fetched once, in the row's order; what the command makes is placed, and its text
 /// goes to the sink in one put (README.md, "Statuses and texts"; docs/PROVED.md says the clauses in
 /// words).
@@ -148,6 +148,16 @@ pub fn viper_main<S: Store, K: Sink>(
     ensures certify_refused { (image plan cert : List ℕ)
         → order_in words.now ≡ Some (Certify image plan cert) → result ≡ Status.Refused
         → Uncertified image plan (S.stock store.old) (S.stock store.new)
+        (K.output out.old) (K.output out.new) }
+    // sample, Done: the certificate of the sample's plan was made, which a check accepts.
+    ensures sample_done { (loops : ℕ)
+        → order_in words.now ≡ Some (Sample loops) → result ≡ Status.Done
+        → Sampled loops (S.stock store.old) (S.stock store.new)
+        (K.output out.old) (K.output out.new) }
+    // sample, Refused: a cause that is true of the sample's plan was put.
+    ensures sample_refused { (loops : ℕ)
+        → order_in words.now ≡ Some (Sample loops) → result ≡ Status.Refused
+        → Unsampled loops (S.stock store.old) (S.stock store.new)
         (K.output out.old) (K.output out.new) }
     // run, Done and Refused: the ending and the outputs put are those of the machine's run, which is one
     // of the plan's fair runs, and isn't stopped where local conditions hold with some certificate.

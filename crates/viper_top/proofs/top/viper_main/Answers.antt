@@ -1,6 +1,7 @@
-use Rattle.viper_top.specs.Orders.{Check, Certify, Run, Upgrade, Assemble, Disasm}
+use Rattle.viper_top.specs.Orders.{Check, Certify, Run, Upgrade, Assemble, Disasm, Sample}
 use Rattle.viper_top.proofs.RunHeadline.{worked, followed}
 use Rattle.viper_top.proofs.CertifyHeadline.{certified, uncertified}
+use Rattle.viper_top.proofs.SampleHeadline.{sampled, unsampled}
 use Rattle.viper_top.proofs.UpgradeHeadline.{made_again, unrefused}
 use Rattle.viper_top.proofs.TextHeadlines.{made_image, listed_image}
 use Rattle.viper_top.proofs.Apart.{of_order, ends_by, usage_by, complete_by}
@@ -27,6 +28,14 @@ returns-clause-certify_done g c = λ image plan cert order done.
 pub returns-clause-certify_refused : goal.returns-clause-certify_refused
 returns-clause-certify_refused g c = λ image plan cert order refused.
     uncertified image plan cert _ _ _ _ (rw refused at (of_order _ (Certify image plan cert) _ order (c.answer_words.ensures.answered (rw refused tt))))
+
+pub returns-clause-sample_done : goal.returns-clause-sample_done
+returns-clause-sample_done g c = λ loops order done.
+    sampled loops _ _ _ _ (rw done at (of_order _ (Sample loops) _ order (c.answer_words.ensures.answered (rw done tt))))
+
+pub returns-clause-sample_refused : goal.returns-clause-sample_refused
+returns-clause-sample_refused g c = λ loops order refused.
+    unsampled loops _ _ _ _ (rw refused at (of_order _ (Sample loops) _ order (c.answer_words.ensures.answered (rw refused tt))))
 
 pub returns-clause-run_ends : goal.returns-clause-run_ends
 returns-clause-run_ends g c = λ image plan script steps order ends.
