@@ -244,3 +244,16 @@ fn a_certificate_is_placed_before_the_put_that_fails(rt: HostRuntime) -> Result<
         "yes\nmarker 00000 within 1\n",
     )
 }
+
+#[test]
+fn a_sample_is_certified_and_uses_no_store(rt: HostRuntime) -> Result<(), Fail> {
+    let mut shelf = shelf_of(rt.alloc(), LOOP, LOOP_PLAN, &[])?;
+    shelf.fail_at(0)?;
+    answers(
+        rt.alloc(),
+        &mut shelf,
+        &["sample", "1"],
+        Status::Done,
+        "sample 1\nwords 7\nnodes 7\nmarker 00000 within 35\n",
+    )
+}

@@ -73,13 +73,16 @@ Commands:
   upgrade   IMAGE PLAN CERT NEW: writes a certificate anew, in version 2
   assemble  SRC IMAGE: writes the image of a source
   disasm    IMAGE: lists an image as a source
+  sample    N: makes a program of N loops, certifies it and checks the certificate
 ";
 
 /// Words that are no command, and what is put.
-const USAGE: [(&[&str], &str); 11] = [
+const USAGE: [(&[&str], &str); 13] = [
     (&[], COMMANDS),
     (&["help"], COMMANDS),
-    (&["sample", "0"], COMMANDS),
+    (&["sample"], COMMANDS),
+    (&["sample", "0"], USAGE_ALONE),
+    (&["sample", "1001"], USAGE_ALONE),
     (&["check", "a", "b"], COMMANDS),
     (&["check", "image", "plan", "cert", "more"], COMMANDS),
     (&["assemble", "image"], COMMANDS),
