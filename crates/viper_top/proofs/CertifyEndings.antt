@@ -1,5 +1,5 @@
 -- How a certification is refused.
-use Rattle.std.proofs.Common.{◌≡◌, ◌≢◌, ℕ, ◌≤◌, List, length, Option, Result, Ok, Err, inr}
+use Rattle.std.proofs.Common.{◌≡◌, ◌≢◌, ℕ, ◌≤◌, List, length, Option, Result, Ok, Err, subst, inr}
 use Rattle.std.specs.Prelude.{IfOk}
 use Rattle.memory_plan.specs.Plans.{PlanLines}
 use Rattle.viper_word.specs.declared.memory.Memory.{Memory}
@@ -13,7 +13,9 @@ use Rattle.certifier.specs.declared.fault.CertifyFault.{CertifyFault}
 use Rattle.certifier.specs.declared.fault.CertifyFault.TheVariants as faults
 use Rattle.certifier.specs.Faults.{IsCertifyFault, IsPastSolving}
 use Rattle.viper_top.specs.declared.answer.Answer.{Answer}
-use Rattle.viper_top.specs.Certify.{Certifies, refusal_text}
+use Rattle.sample_program.specs.Samples.{sample_plan}
+use Rattle.viper_top.specs.Certify.{Certifies, EndsRefused, refusal_text}
+use Rattle.viper_top.specs.Sample.{Samples}
 use Rattle.viper_top.specs.Endings.{refused}
 use Rattle.viper_top.specs.Stages.{ending_of}
 
@@ -23,3 +25,12 @@ pub refused_so : (plan : PlanLines) (cause : CertifyFault) (r : Result Answer Me
     → IfOk r (λ a. ending_of a ≡ refused (refusal_text cause)) → IfOk r (λ a. cause ≢ faults.Memory) → IfOk r (λ a. Certifies plan (ending_of a))
 refused_so plan cause (Ok a) t s is other = inr (record { cause = cause; is_true = t; not_memory = other; solvable = s; is = is })
 refused_so plan cause (Err e) t s is other = tt
+
+-- and of a sample
+pub sample_refused : (loops : ℕ) (plan : PlanLines) (cause : CertifyFault) (r : Result Answer Memory) → plan ≡ sample_plan loops → IsCertifyFault vals plan cause
+    → ((m : Key → Option (FactOf Val)) (ks : List Key) → IsSolution (plan_rules vals plan) m → HasKeys m ks → length ks ≤ MOST_NODES → IsPastSolving cause)
+    → IfOk r (λ a. ending_of a ≡ refused (refusal_text cause)) → IfOk r (λ a. cause ≢ faults.Memory) → IfOk r (λ a. Samples loops (ending_of a))
+sample_refused loops plan cause (Ok a) e t s is other =
+    let ends : EndsRefused plan (ending_of a) = record { cause = cause; is_true = t; not_memory = other; solvable = s; is = is } in
+    inr (subst (λ (p : PlanLines). EndsRefused p (ending_of a)) e ends)
+sample_refused loops plan cause (Err m) e t s is other = tt

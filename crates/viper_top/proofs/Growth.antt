@@ -27,6 +27,9 @@ grew_twice s0 s1 s2 a b = record {
   longs = omega (arith, a.longs, b.longs);
 }
 
+pub stays_same : (s : Stock) → Stays s s
+stays_same s = record { holds = λ name. refl; grew = grew_same s }
+
 pub stays_twice : (s0 s1 s2 : Stock) → Stays s0 s1 → Stays s1 s2 → Stays s0 s2
 stays_twice s0 s1 s2 a b = record { holds = λ name. b.holds name ∙ a.holds name; grew = grew_twice s0 s1 s2 a.grew b.grew }
 

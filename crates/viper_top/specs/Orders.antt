@@ -40,7 +40,7 @@ loops_of text =
     else None
 
 -- the rows with one word behind the first
-abbrev pub one_word : List ℕ → List ℕ → Option Order
+unfoldable pub one_word : List ℕ → List ℕ → Option Order
 one_word word a =
     if bytes_eq word (codes "disasm") then Some (Disasm a)
     else if bytes_eq word (codes "sample") then bind (loops_of a) (λ n. Some (Sample n))

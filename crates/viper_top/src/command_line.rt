@@ -133,6 +133,7 @@ fn loops_of(word: &str) -> Option<Loops>
 }
 
 /// The command of this word with one word behind it.
+#[tactic(auto, unfolding(crate::specs::Orders::one_word))]
 fn one_word<'a>(word: &str, a: &'a str) -> Option<Command<'a>>
     ensures { option_map order_view result ≡ one_word word.now a.now }
 {
