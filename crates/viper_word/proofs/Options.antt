@@ -4,10 +4,16 @@ use Rattle.std.proofs.Common.{refl}
 use Rattle.std.proofs.lemmas.Bool.{false≢true}
 use Rattle.viper_word.specs.Options.{bind}
 use Rattle.std.specs.Prelude.{unwrap_or}
+use Rattle.std.proofs.lemmas.Option.{none-some}
 
 pub some_bind : {A B : Type 0} (P : A → Type 0) (Q : B → Type 0) (o : Option A) (f : A → Option B) → IsSomeAnd o P → ((x : A) → P x → IsSomeAnd (f x) Q) → IsSomeAnd (bind o f) Q
 some_bind P Q None f h k = absurd h
 some_bind P Q (Some x) f h k = k x h
+
+-- the same, where it matters which option it was
+pub some_bind_is : {A B : Type 0} (P : A → Type 0) (Q : B → Type 0) (o : Option A) (f : A → Option B) → IsSomeAnd o P → ((x : A) → o ≡ Some x → P x → IsSomeAnd (f x) Q) → IsSomeAnd (bind o f) Q
+some_bind_is P Q None f h k = absurd h
+some_bind_is P Q (Some x) f h k = k x refl h
 
 pub all_bind : {A B : Type 0} (P : A → Type 0) (Q : B → Type 0) (o : Option A) (f : A → Option B) → IfSome o P → ((x : A) → P x → IfSome (f x) Q) → IfSome (bind o f) Q
 all_bind P Q None f h k = tt
@@ -18,6 +24,10 @@ pub bind_mono : {A A' B B' : Type 0} (R : A → A' → Type 0) (S : B → B' →
 bind_mono R S None o' f f' h k = tt
 bind_mono R S (Some a) None f f' h k = absurd h
 bind_mono R S (Some a) (Some a') f f' h k = k a a' h
+
+pub all_unit : {A : Type 0} (o : Option A) → IfSome o (λ _. Unit {0})
+all_unit None = tt
+all_unit (Some x) = tt
 
 pub all_some : {A : Type 0} (P Q : A → Type 0) (o : Option A) → IfSome o P → ((x : A) → P x → Q x) → IfSome o Q
 all_some P Q None h k = tt
@@ -48,3 +58,13 @@ some_and P Q (Some x) h k = (h, k)
 pub some_or_else : {A : Type 0} (P : A → Type 0) (o : Option A) (b : A) → IsSomeAnd o P → P (unwrap_or o b)
 some_or_else P None b h = absurd h
 some_or_else P (Some a) b h = h
+
+-- what was bound gave y: the value that was there gives it
+pub record WasBound {A B : Type 0} (o : Option A) (f : A → Option B) (y : B) : Type 0 where
+  pub first : A
+  pub is : o ≡ Some first
+  pub gives : f first ≡ Some y
+
+pub bind_was : {A B : Type 0} (o : Option A) (f : A → Option B) (y : B) → bind o f ≡ Some y → WasBound o f y
+bind_was None f y h = absurd (none-some y h)
+bind_was (Some x) f y h = record { first = x; is = refl; gives = h }

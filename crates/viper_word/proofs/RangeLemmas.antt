@@ -1,5 +1,5 @@
 -- Ranges in normal form: steps from the residue are steps from the least number.
-use Rattle.std.specs.Prelude.{◌≡◌, ◌-◌, ◌^◌, ◌%◌, ◌≤◌, ◌<◌, ℕ, ℤ, pos, ◌-ℤ◌, nat_abs, nat_eq, true, false}
+use Rattle.std.specs.Prelude.{◌≡◌, ◌-◌, ◌^◌, ◌≤◌, ◌<◌, ℤ, pos, ◌-ℤ◌, nat_abs, nat_eq, true, false}
 use Rattle.std.proofs.Common.{arith, refl, inl, inr, ⊎_elim, ◌⊎◌}
 use Rattle.std.proofs.Math.Nat.{le_of_dvd, dvd_of_mod-eq-zero, mod-eq-zero_of_dvd}
 use Rattle.std.proofs.lemmas.Int.{ints}
@@ -8,7 +8,8 @@ use Rattle.viper_word.specs.Words.{IsSigned}
 use Rattle.viper_word.specs.Ranges.{OnStep, NumberRange, IsIn, IsSingle, IsSeveral, IsNormal, IsRange, InRange}
 use Rattle.viper_word.proofs.Steps.{step_divides, steps_between, steps_onward}
 
-low_step : (r : NumberRange) → IsSingle r ⊎ IsSeveral r → OnStep r.modulus r.residue r.lo
+-- a range begins on its own steps
+pub low_step : (r : NumberRange) → IsSingle r ⊎ IsSeveral r → OnStep r.modulus r.residue r.lo
 low_step r (inl one) = let m = one.modulus in let e = one.residue in record { steps = pos 0; holds = omega (arith, ints) }
 low_step r (inr many) = many.from
 

@@ -7,7 +7,8 @@ pub record OnStep (q t n : ℤ) : Type 0 where
   pub steps : ℤ
   pub holds : n ≡ t +ℤ (steps *ℤ q)
 
--- the numbers from lo to hi in steps of the modulus, all of one residue; modulus 0 is for a single number
+-- the numbers from lo to hi in steps of the modulus, all of one residue; modulus 0 is for a single
+-- number
 pub record NumberRange : Type 0 where
   pub lo : ℤ
   pub hi : ℤ
@@ -45,8 +46,8 @@ pub record IsNormal (r : NumberRange) : Type 0 where
 abbrev pub any_word : NumberRange
 any_word = record { lo = least_signed; hi = greatest_signed; modulus = pos 1; residue = pos 0 }
 
--- the three numbers are the ends and the modulus of a range in normal form, as tests say it: its residue is
--- known from them, and a single number has the modulus 0, which divides only 0
+-- the three numbers are the ends and the modulus of a range in normal form, as tests say it: its
+-- residue is known from them, and a single number has the modulus 0, which divides only 0
 pub record IsRange (lo hi modulus : ℤ) : Type 0 where
   pub low : IsSigned lo
   pub high : IsSigned hi
