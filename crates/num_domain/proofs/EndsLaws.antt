@@ -3,7 +3,7 @@ use Rattle.std.specs.Prelude.{◌≡◌, ℤ, ◌≤ℤ◌, ◌<ℤ◌, int_le, 
 use Rattle.std.specs.Ordering.{int_eq}
 use Rattle.std.proofs.Common.{refl, arith, sym, ◌∙◌}
 use Rattle.std.proofs.lemmas.Int.{ints}
-use Rattle.std.proofs.lemmas.Bool.{and_parts, and_from, false≢true}
+use Rattle.std.proofs.lemmas.Bool.{and_parts, and_from, false≢true, false_from_ne_true}
 use Rattle.viper_word.specs.Words.{IsSigned, least_signed, greatest_signed}
 use Rattle.num_domain.specs.Domain.{Domain, Has, Below}
 use Rattle.num_domain.specs.Laws.{DomainLaws}
@@ -26,10 +26,6 @@ int_eq_from x y h k = grind (arith, ints)
 
 int_eq_le : (x y : ℤ) → int_eq x y ≡ true → x ≤ℤ y
 int_eq_le x y h = grind (arith, ints)
-
-none_false : (x : Bool) → (x ≡ true → ⊥) → x ≡ false
-none_false true f = absurd (f refl)
-none_false false f = refl
 
 same_is : (n : ℤ) (o : Option ℤ) → same_as n o ≡ true → IsSomeAnd o (λ k. k ≡ n)
 same_is n None h = absurd (false≢true h)
@@ -118,7 +114,7 @@ module _ {T : Type 0} (d : Domain T) (laws : DomainLaws d) where
   before v k j (Some i) (Some m) h e f g =
       let a = laws.spans.least_mono v v j k (laws.order.refl v) h in
       let b : i ≤ℤ m = rw (e, f) at a in
-      none_false (int_eq m j) (λ t. let c = same_is j (Some m) t in omega (arith, ints))
+      false_from_ne_true (int_eq m j) (λ t. let c = same_is j (Some m) t in omega (arith, ints))
 
   pub none_before : (v : T) (k j m : ℤ) → k ≤ℤ j → j <ℤ m → d.least_from v k ≡ Some m → same_as j (d.least_from v j) ≡ false
   none_before v k j m h g e = before v k j (Some m) (d.least_from v j) h e refl g

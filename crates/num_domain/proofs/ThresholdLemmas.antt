@@ -12,7 +12,7 @@ use Rattle.std.proofs.lemmas.Cmp.{int_cmp_total}
 use Rattle.std.proofs.lemmas.List.Elements.{All-nil, All-cons, All-append, All-weaker, All-get_or, Contains-append_right, Contains-get_or, at_from_Contains, filter_passes}
 use Rattle.std.proofs.lemmas.List.Sorted.{All-permutation, Contains-permutation, ranks_by, sorted_far}
 use Rattle.num_domain.specs.Rounding.{with_ends, below, above, IsThresholds}
-use Rattle.viper_word.proofs.Integers.{le_true, le_false, is_signed_true}
+use Rattle.viper_word.proofs.Integers.{le_true, le_false, is_signed_true, less_false}
 
 le-or-lt : (a b : ℕ) → (a ≤ b) ⊎ (b < a)
 le-or-lt a b = ⊎_elim (λ (e : nat_le a b ≡ true). inl (leb-true a b e)) (λ (e : nat_le a b ≡ false). inr (leb-false a b e)) (cases_Bool (nat_le a b))
@@ -93,13 +93,10 @@ above_is ts n high h l m f =
 
 -- ---- sorting
 
-not_under : (x y : ℤ) → is_lt (int_cmp x y) ≡ false → y ≤ℤ x
+pub not_under : (x y : ℤ) → is_lt (int_cmp x y) ≡ false → y ≤ℤ x
 not_under x y h =
     ⊎_elim (λ (e : int_lt x y ≡ true). let f : is_lt (int_cmp x y) ≡ true = rw e refl in absurd (false≢true (sym h ∙ f)))
-    (λ (e : int_lt x y ≡ false). lt_not x y e) (cases_Bool (int_lt x y))
-  where
-    lt_not : (x y : ℤ) → int_lt x y ≡ false → y ≤ℤ x
-    lt_not x y e = grind (arith, ints)
+    (λ (e : int_lt x y ≡ false). less_false x y e) (cases_Bool (int_lt x y))
 
 sorted_rises : (ts : List ℤ) → IsSorted int_cmp ts → (i j : ℕ) → i ≤ j → j < length ts → slice_index_or ts i (pos 0) ≤ℤ slice_index_or ts j (pos 0)
 sorted_rises ts h i j e l = not_under (slice_index_or ts j (pos 0)) (slice_index_or ts i (pos 0)) (sorted_far (λ x y. is_lt (int_cmp x y)) (ranks_by int_cmp_total (λ (x : ℤ). x)) ts h i j (pos 0) e l)

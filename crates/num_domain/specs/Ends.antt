@@ -40,7 +40,9 @@ is_between n (Some r) = int_le r.lo n && int_le n r.hi
 module _ {T : Type 0} (d : Domain T) where
   -- the least and the greatest number that a value may have, if it may have one
   unfoldable pub ends : T → Option Ends
-  ends v = bind (d.least_from v least_signed) (λ lo. bind (d.greatest_to v greatest_signed) (λ hi. ends_when lo hi (int_le lo hi) refl))
+  ends v =
+      bind (d.least_from v least_signed)
+      (λ lo. bind (d.greatest_to v greatest_signed) (λ hi. ends_when lo hi (int_le lo hi) refl))
 
   -- whether n is between the ends and the least from n on
   unfoldable pub is_point : T → ℤ → Bool

@@ -8,13 +8,19 @@ use Rattle.num_domain.specs.Exact.{one}
 abbrev pub Exact1 : {A : Type 0} → Domain A → (A → Option ℤ) → (A → Option A) → (ℤ → ℤ) → Type 0
 Exact1 {A} d single f op = (a : A) (x : ℤ) → single a ≡ Some x → f a ≡ one d.constant single (op x)
 
-abbrev pub Exact2 : {A : Type 0} → Domain A → (A → Option ℤ) → (A → A → Option A) → (ℤ → ℤ → ℤ) → Type 0
-Exact2 {A} d single f op = (a b : A) (x y : ℤ) → single a ≡ Some x → single b ≡ Some y → f a b ≡ one d.constant single (op x y)
+abbrev pub Exact2 : {A : Type 0} → Domain A → (A → Option ℤ) → (A → A → Option A) → (ℤ → ℤ → ℤ)
+    → Type 0
+Exact2 {A} d single f op =
+    (a b : A) (x y : ℤ) → single a ≡ Some x → single b ≡ Some y
+    → f a b ≡ one d.constant single (op x y)
 
-abbrev pub ExactFlag : {A : Type 0} → Domain A → (A → Option ℤ) → (A → Option Bool → Option A) → (Bool → ℤ → ℤ) → Type 0
-ExactFlag {A} d single f op = (a : A) (b : Bool) (x : ℤ) → single a ≡ Some x → f a (Some b) ≡ one d.constant single (op b x)
+abbrev pub ExactFlag : {A : Type 0} → Domain A → (A → Option ℤ) → (A → Option Bool → Option A)
+    → (Bool → ℤ → ℤ) → Type 0
+ExactFlag {A} d single f op =
+    (a : A) (b : Bool) (x : ℤ) → single a ≡ Some x → f a (Some b) ≡ one d.constant single (op b x)
 
--- a constant is single, and of single arguments each function gives the exact result, or None where no word can hold it
+-- a constant is single, and of single arguments each function gives the exact result, or None where
+-- no word can hold it
 pub record IsExact {A : Type 0} (d : Domain A) (single : A → Option ℤ) : Type 0 where
   pub constant : (n : ℤ) → IsSigned n → single (d.constant n) ≡ Some n
   pub add : Exact2 d single d.add ◌+ℤ◌

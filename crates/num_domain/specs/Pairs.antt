@@ -16,22 +16,27 @@ module _ {L R : Type 0} (l : Domain L) (r : Domain R) where
 
   -- the left factor is asked, then the right one from its answer, then the left one again
   abbrev pub pair_least : Pair L R → ℤ → Option ℤ
-  pair_least p n = bind (l.least_from p.left n) (λ i. bind (r.least_from p.right i) (λ j. l.least_from p.left j))
+  pair_least p n =
+      bind (l.least_from p.left n) (λ i. bind (r.least_from p.right i) (λ j. l.least_from p.left j))
 
   abbrev pub pair_greatest : Pair L R → ℤ → Option ℤ
-  pair_greatest p n = bind (l.greatest_to p.left n) (λ i. bind (r.greatest_to p.right i) (λ j. l.greatest_to p.left j))
+  pair_greatest p n =
+      bind (l.greatest_to p.left n)
+      (λ i. bind (r.greatest_to p.right i) (λ j. l.greatest_to p.left j))
 
   -- both factors narrowed to the numbers from the first to the last that may be members
   unfoldable pub seal : Pair L R → Option (Pair L R)
   seal p =
       bind (pair_least p least_signed)
-      (λ a. bind (pair_greatest p greatest_signed) (λ b. cond (int_le a b) (both (l.narrow p.left a b) (r.narrow p.right a b)) None))
+      (λ a. bind (pair_greatest p greatest_signed)
+      (λ b. cond (int_le a b) (both (l.narrow p.left a b) (r.narrow p.right a b)) None))
 
   -- what both factors give, sealed
   abbrev pub lift1 : (L → Option L) → (R → Option R) → Pair L R → Option (Pair L R)
   lift1 f g p = bind (both (f p.left) (g p.right)) seal
 
-  abbrev pub lift2 : (L → L → Option L) → (R → R → Option R) → Pair L R → Pair L R → Option (Pair L R)
+  abbrev pub lift2 : (L → L → Option L) → (R → R → Option R) → Pair L R → Pair L R
+      → Option (Pair L R)
   lift2 f g p q = bind (both (f p.left q.left) (g p.right q.right)) seal
 
   -- the join with what is sealed, if anything is left of it

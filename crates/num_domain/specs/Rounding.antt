@@ -22,7 +22,8 @@ pub record IsThresholds (ts : List ℤ) : Type 0 where
   pub some : 0 < length ts
   pub first : slice_index_or ts 0 (pos 0) ≡ least_signed
   pub last : slice_index_or ts (length ts - 1) (pos 0) ≡ greatest_signed
-  pub rising : (i j : ℕ) → i ≤ j → j < length ts → slice_index_or ts i (pos 0) ≤ℤ slice_index_or ts j (pos 0)
+  pub rising : (i j : ℕ) → i ≤ j → j < length ts
+      → slice_index_or ts i (pos 0) ≤ℤ slice_index_or ts j (pos 0)
 
 -- the last number up to n stands from low to high
 pub record IsBetween_below (ts : List ℤ) (n : ℤ) (low high : ℕ) : Type 0 where
