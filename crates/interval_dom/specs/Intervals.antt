@@ -27,7 +27,9 @@ interval_if lo hi false h = None
 
 -- the part of lo to hi that words can hold
 unfoldable pub cut : ℤ → ℤ → Option Interval
-cut lo hi = interval_if (int_max lo least_signed) (int_min hi greatest_signed) (int_le (int_max lo least_signed) (int_min hi greatest_signed)) (cut_ends lo hi)
+cut lo hi =
+    interval_if (int_max lo least_signed) (int_min hi greatest_signed)
+    (int_le (int_max lo least_signed) (int_min hi greatest_signed)) (cut_ends lo hi)
 
 abbrev pub top : Interval
 top = interval least_signed greatest_signed top_ends
@@ -52,7 +54,10 @@ join a b = interval (int_min a.lo b.lo) (int_max a.hi b.hi) (join_ends a b)
 
 -- from 0 to the lesser high end of those that have no negative member
 unfoldable pub and_row : Interval → Interval → Option Interval
-and_row a b = cond (int_le (pos 0) a.lo) (cond (int_le (pos 0) b.lo) (cut (pos 0) (int_min a.hi b.hi)) (cut (pos 0) a.hi)) (cond (int_le (pos 0) b.lo) (cut (pos 0) b.hi) (Some top))
+and_row a b =
+    cond (int_le (pos 0) a.lo)
+    (cond (int_le (pos 0) b.lo) (cut (pos 0) (int_min a.hi b.hi)) (cut (pos 0) a.hi))
+    (cond (int_le (pos 0) b.lo) (cut (pos 0) b.hi) (Some top))
 
 -- the least power of two above the number
 unfoldable pub power_above : ℕ → ℕ
@@ -63,10 +68,14 @@ abbrev pub power_of : Interval → Interval → ℕ
 power_of a b = power_above (nat_abs (int_max a.hi b.hi))
 
 unfoldable pub xor_row : Interval → Interval → Option Interval
-xor_row a b = cond (int_le (pos 0) a.lo && int_le (pos 0) b.lo) (cut (pos 0) (pos (power_of a b) -ℤ pos 1)) (Some top)
+xor_row a b =
+    cond (int_le (pos 0) a.lo && int_le (pos 0) b.lo)
+    (cut (pos 0) (pos (power_of a b) -ℤ pos 1)) (Some top)
 
 unfoldable pub nor_row : Interval → Interval → Option Interval
-nor_row a b = cond (int_le (pos 0) a.lo && int_le (pos 0) b.lo) (cut (neg_ℤ (pos (power_of a b))) (negsuc 0)) (Some top)
+nor_row a b =
+    cond (int_le (pos 0) a.lo && int_le (pos 0) b.lo)
+    (cut (neg_ℤ (pos (power_of a b))) (negsuc 0)) (Some top)
 
 unfoldable pub and_not_row : Interval → Interval → Option Interval
 and_not_row a b = cond (int_le (pos 0) a.lo) (cut (pos 0) a.hi) (Some top)
@@ -74,7 +83,8 @@ and_not_row a b = cond (int_le (pos 0) a.lo) (cut (pos 0) a.hi) (Some top)
 unfoldable pub right_row : Interval → Option Bool → Option Interval
 right_row a None = Some top
 right_row a (Some true) = cut least_signed (negsuc 0)
-right_row a (Some false) = cond (int_le (pos 0) a.lo) (cut (halved a.lo) (halved a.hi)) (cut (pos 0) greatest_signed)
+right_row a (Some false) =
+    cond (int_le (pos 0) a.lo) (cut (halved a.lo) (halved a.hi)) (cut (pos 0) greatest_signed)
 
 -- the lowest bit that may be shifted in
 abbrev pub least_bit : Option Bool → ℤ
@@ -86,7 +96,9 @@ greatest_bit None = pos 1
 greatest_bit (Some b) = cond b (pos 1) (pos 0)
 
 unfoldable pub left_row : Interval → Option Bool → Option Interval
-left_row a b = cond (is_signed (a.lo +ℤ a.lo) && is_signed (a.hi +ℤ a.hi +ℤ pos 1)) (cut (a.lo +ℤ a.lo +ℤ least_bit b) (a.hi +ℤ a.hi +ℤ greatest_bit b)) (Some top)
+left_row a b =
+    cond (is_signed (a.lo +ℤ a.lo) && is_signed (a.hi +ℤ a.hi +ℤ pos 1))
+    (cut (a.lo +ℤ a.lo +ℤ least_bit b) (a.hi +ℤ a.hi +ℤ greatest_bit b)) (Some top)
 
 -- ---- refining
 
@@ -98,12 +110,14 @@ hull (Some x) (Some y) = Some (join x y)
 
 -- a without n, where n is an end of it
 unfoldable pub without : Interval → ℤ → Option Interval
-without a n = cut (cond (int_eq a.lo n) (a.lo +ℤ pos 1) a.lo) (cond (int_eq a.hi n) (a.hi -ℤ pos 1) a.hi)
+without a n =
+    cut (cond (int_eq a.lo n) (a.lo +ℤ pos 1) a.lo) (cond (int_eq a.hi n) (a.hi -ℤ pos 1) a.hi)
 
 -- as unsigned numbers the negative ones stand above the others: the greatest of each kind that is
 -- below some member of b, and the least of each kind that isn't below each member of b
 abbrev pub negative_to : Interval → ℤ
-negative_to b = cond (int_lt b.lo (pos 0)) (int_min b.hi (negsuc 0) -ℤ pos 1) (least_signed -ℤ pos 1)
+negative_to b =
+    cond (int_lt b.lo (pos 0)) (int_min b.hi (negsuc 0) -ℤ pos 1) (least_signed -ℤ pos 1)
 
 abbrev pub natural_to : Interval → ℤ
 natural_to b = cond (int_lt b.lo (pos 0)) greatest_signed (b.hi -ℤ pos 1)
@@ -121,8 +135,12 @@ refine a Eq b = cut (int_max a.lo b.lo) (int_min a.hi b.hi)
 refine a Ne b = cond (int_le b.hi b.lo) (without a b.lo) (Some a)
 refine a Le b = cut a.lo (int_min a.hi b.hi)
 refine a Gt b = cut (int_max a.lo (b.lo +ℤ pos 1)) a.hi
-refine a Ult b = hull (cut a.lo (int_min a.hi (negative_to b))) (cut (int_max a.lo (pos 0)) (int_min a.hi (natural_to b)))
-refine a Uge b = hull (cut (int_max a.lo (negative_from b)) (int_min a.hi (negsuc 0))) (cut (int_max a.lo (natural_from b)) a.hi)
+refine a Ult b =
+    hull (cut a.lo (int_min a.hi (negative_to b)))
+    (cut (int_max a.lo (pos 0)) (int_min a.hi (natural_to b)))
+refine a Uge b =
+    hull (cut (int_max a.lo (negative_from b)) (int_min a.hi (negsuc 0)))
+    (cut (int_max a.lo (natural_from b)) a.hi)
 
 -- ---- queries
 
@@ -149,8 +167,12 @@ intervals = record {
   join = join;
   add = λ a b. cut (a.lo +ℤ b.lo) (a.hi +ℤ b.hi);
   sub = λ a b. cut (a.lo -ℤ b.hi) (a.hi -ℤ b.lo);
-  add_wrap = exact2 constant single (λ x y. wrapped (x +ℤ y)) (λ a b. unwrapped (a.lo +ℤ b.lo) (a.hi +ℤ b.hi));
-  sub_wrap = exact2 constant single (λ x y. wrapped (x -ℤ y)) (λ a b. unwrapped (a.lo -ℤ b.hi) (a.hi -ℤ b.lo));
+  add_wrap =
+      exact2 constant single (λ x y. wrapped (x +ℤ y))
+      (λ a b. unwrapped (a.lo +ℤ b.lo) (a.hi +ℤ b.hi));
+  sub_wrap =
+      exact2 constant single (λ x y. wrapped (x -ℤ y))
+      (λ a b. unwrapped (a.lo -ℤ b.hi) (a.hi -ℤ b.lo));
   xor = exact2 constant single signed_xor xor_row;
   bit_and = exact2 constant single signed_and and_row;
   nor = exact2 constant single signed_nor nor_row;

@@ -4,7 +4,7 @@ use Rattle.std.specs.Ordering.{int_eq}
 use Rattle.std.specs.Int.{int_min, int_max}
 use Rattle.std.proofs.Common.{refl, arith, ⊎_elim, inl, inr}
 use Rattle.std.proofs.lemmas.Int.{ints, clamps}
-use Rattle.std.proofs.lemmas.Bool.{and_parts, and_from, and_cases, false≢true}
+use Rattle.std.proofs.lemmas.Bool.{and_parts, and_from, and_cases, false≢true, or_cases}
 use Rattle.viper_word.specs.Words.{IsSigned}
 use Rattle.viper_word.specs.Signed.{wrapped, signed_xor, signed_and, signed_nor, signed_and_not, halved, shifted_right, shifted_left}
 use Rattle.num_domain.specs.Domain.{Has, Below}
@@ -14,12 +14,12 @@ use Rattle.num_domain.specs.evidence.ExactLaws.{exact1_sound, exact1_mono, exact
 use Rattle.viper_word.proofs.Options.{some_when, all_when, some_or_else}
 use Rattle.num_domain.specs.evidence.RoundingLaws.{below_le_self, below_mono, above_ge_self, above_mono}
 use Rattle.viper_word.proofs.Steps.{on_step_from}
-use Rattle.viper_word.proofs.Integers.{le_true, le_false, true_le}
+use Rattle.viper_word.proofs.Integers.{le_true, le_false, true_le, eq_true}
 use Rattle.interval_dom.specs.Bounds.{AreEnds}
 use Rattle.interval_dom.specs.Intervals.{cut, top, unwrapped, single, and_row, xor_row, nor_row, and_not_row, right_row, left_row, join, least_from, greatest_to, all_on, intervals}
 use Rattle.interval_dom.specs.evidence.IntervalOrder.{has_ends, ends_has, below_ends, ends_below, has_in_w, below_top, top_has, same_ends, cut_has, cut_mono, cut_below, single_laws, constant_has, unwrapped_has, unwrapped_mono}
 use Rattle.interval_dom.specs.evidence.IntervalRows.{and_sound, and_mono, xor_sound, xor_mono, nor_sound, nor_mono, and_not_sound, and_not_mono, right_sound, right_mono, left_sound, left_mono, halved_mono}
-use Rattle.interval_dom.specs.evidence.IntervalRefine.{eq_true, refine_sound, refine_mono, refine_below}
+use Rattle.interval_dom.specs.evidence.IntervalRefine.{refine_sound, refine_mono, refine_below, member_signed}
 use Rattle.interval_dom.specs.declared.interval.Interval.{Interval}
 
 width_falls : (lo hi lo' hi' : ℤ) → AreEnds lo hi → AreEnds lo' hi' → lo' ≤ℤ lo → hi ≤ℤ hi' → (lo' <ℤ lo) ⊎ (hi <ℤ hi') → 2 ^ 32 - 1 - nat_abs (hi' -ℤ lo') < 2 ^ 32 - 1 - nat_abs (hi -ℤ lo)
@@ -33,10 +33,6 @@ height_falls a b h k =
     (⊎_elim (λ (q : int_le a.lo b.lo ≡ false). inl (le_false a.lo b.lo q)) (λ (q : int_le b.hi a.hi ≡ false). inr (le_false b.hi a.hi q)) (and_cases (int_le a.lo b.lo) (int_le b.hi a.hi) k))
 
 -- ---- a modulus and a residue
-
-all_on_cases : (x y : Bool) → (x || y) ≡ true → (x ≡ true) ⊎ (y ≡ true)
-all_on_cases true y e = inl refl
-all_on_cases false y e = inr e
 
 or_from : (x y : Bool) → (x ≡ true) ⊎ (y ≡ true) → (x || y) ≡ true
 or_from true y h = refl
@@ -55,7 +51,7 @@ all_on_sound a q t n l h e =
     let r = and_parts (int_le a.hi a.lo) (nat_abs (a.lo -ℤ t) % nat_abs q == 0) f in
     let s = le_true a.hi a.lo r.0 in
     on_step_from q t a.lo n l r.1 (omega (arith, ints)))
-    (all_on_cases (int_eq q (pos 1)) (is_at a q t) e)
+    (or_cases (int_eq q (pos 1)) (is_at a q t) e)
 
 all_on_mono : (a a' : Interval) (q t : ℤ) → Below intervals a a' → all_on a' q t ≡ true → all_on a q t ≡ true
 unfolding all_on
@@ -69,7 +65,7 @@ all_on_mono a a' q t h e =
     let s = le_true a'.hi a'.lo r.0 in
     let same : a.lo ≡ a'.lo = omega (arith, ints) in
     inr (and_from (int_le a.hi a.lo) (nat_abs (a.lo -ℤ t) % nat_abs q == 0) (true_le a.hi a.lo (omega (arith, ints))) (rw same r.1)))
-    (all_on_cases (int_eq q (pos 1)) (is_at a' q t) e))
+    (or_cases (int_eq q (pos 1)) (is_at a' q t) e))
 
 -- ---- the rows that need no rule of their own
 
@@ -149,16 +145,13 @@ mono_laws = record {
   refine_below = refine_below;
 }
 
-in_between : (a : Interval) (n : ℤ) → a.lo ≤ℤ n → n ≤ℤ a.hi → IsSigned n
-in_between a n p q = has_in_w a n (ends_has a n p q)
-
 span_laws : SpanLaws intervals
 span_laws = record {
   span_has = λ lo hi m n r i. let w = r.low.low in let v = r.high.high in let il = i.low in let ih = i.high in
       some_or_else (λ s. Has intervals s n) (cut lo hi) top (cut_has lo hi n (record { low = omega (arith, ints); high = omega (arith, ints) }) i.low i.high);
   all_on_sound = all_on_sound;
-  least_in_w = λ a n. all_when (int_le n a.hi) (Some (int_max a.lo n)) IsSigned (λ e. let f = le_true n a.hi e in let o = a.ends.ordered in in_between a (int_max a.lo n) (omega (arith, ints, clamps)) (omega (arith, ints, clamps)));
-  greatest_in_w = λ a n. all_when (int_le a.lo n) (Some (int_min a.hi n)) IsSigned (λ e. let f = le_true a.lo n e in let o = a.ends.ordered in in_between a (int_min a.hi n) (omega (arith, ints, clamps)) (omega (arith, ints, clamps)));
+  least_in_w = λ a n. all_when (int_le n a.hi) (Some (int_max a.lo n)) IsSigned (λ e. let f = le_true n a.hi e in let o = a.ends.ordered in member_signed a (int_max a.lo n) (omega (arith, ints, clamps)) (omega (arith, ints, clamps)));
+  greatest_in_w = λ a n. all_when (int_le a.lo n) (Some (int_min a.hi n)) IsSigned (λ e. let f = le_true a.lo n e in let o = a.ends.ordered in member_signed a (int_min a.hi n) (omega (arith, ints, clamps)) (omega (arith, ints, clamps)));
   narrow_sound = λ a lo hi n h p q. let r = has_ends a n h in cut_has (int_max a.lo lo) (int_min a.hi hi) n (has_in_w a n h) (omega (arith, ints, clamps)) (omega (arith, ints, clamps));
   narrow_below = λ a lo hi. cut_below (int_max a.lo lo) (int_min a.hi hi) a (omega (arith, ints, clamps)) (omega (arith, ints, clamps));
   narrow_mono = λ a a' lo lo' hi hi' h p q. let r = below_ends a a' h in cut_mono (int_max a.lo lo) (int_min a.hi hi) (int_max a'.lo lo') (int_min a'.hi hi') (omega (arith, ints, clamps)) (omega (arith, ints, clamps));

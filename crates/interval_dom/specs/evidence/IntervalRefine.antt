@@ -1,10 +1,10 @@
 -- Refining an interval is sound, gives the least interval, and so is monotone.
-use Rattle.std.specs.Prelude.{◌≡◌, ℤ, pos, negsuc, ◌+ℤ◌, ◌-ℤ◌, ◌≤ℤ◌, ◌<ℤ◌, ◌⊎◌, Bool, true, false, not, cond, int_le, int_lt, Option, Some, None, IsSomeAnd, IfSome}
+use Rattle.std.specs.Prelude.{◌≡◌, ℤ, pos, negsuc, ◌+ℤ◌, ◌-ℤ◌, ◌≤ℤ◌, ◌<ℤ◌, ◌⊎◌, true, false, not, cond, int_le, int_lt, Option, Some, None, IsSomeAnd, IfSome}
 use Rattle.std.specs.Ordering.{int_eq}
 use Rattle.std.specs.Int.{w32, cast_unsigned, int_min, int_max}
-use Rattle.std.proofs.Common.{refl, sym, arith, ⊎_elim, inl, inr}
+use Rattle.std.proofs.Common.{refl, arith, ⊎_elim, inl, inr}
 use Rattle.std.proofs.lemmas.Int.{ints, clamps}
-use Rattle.std.proofs.lemmas.Bool.{false≢true, cond_both, cases_Bool, ltb-true, leb-true, lt-ltb, le-leb}
+use Rattle.std.proofs.lemmas.Bool.{false≢true, cond_both, cases_Bool, ltb-true, leb-true, lt-ltb, le-leb, not_from_false}
 use Rattle.viper_word.specs.Words.{IsSigned, least_signed, greatest_signed}
 use Rattle.viper_word.specs.Signed.{signed_compares}
 use Rattle.viper_word.specs.declared.kind.Kind.{Kind}
@@ -12,27 +12,12 @@ use Rattle.viper_word.specs.declared.kind.Kind.TheVariants.{Lt, Ge, Eq, Ne, Le, 
 use Rattle.num_domain.specs.Domain.{Has, Below, BelowOption}
 use Rattle.num_domain.specs.Laws.{Mono2}
 use Rattle.viper_word.proofs.Options.{all_some}
-use Rattle.viper_word.proofs.Integers.{le_true, le_false, true_le}
+use Rattle.viper_word.proofs.Integers.{le_true, le_false, true_le, less_true, true_less, less_false, eq_true, true_eq}
 use Rattle.interval_dom.specs.Intervals.{cut, join, hull, without, negative_to, natural_to, negative_from, natural_from, refine, intervals}
 use Rattle.interval_dom.specs.evidence.IntervalOrder.{has_ends, ends_has, below_ends, ends_below, has_in_w, cut_has, cut_all}
 use Rattle.interval_dom.specs.declared.interval.Interval.{Interval}
 
 -- ---- tests
-
-pub lt_true : (x y : ℤ) → int_lt x y ≡ true → x <ℤ y
-lt_true x y h = grind (arith, ints)
-
-pub true_lt : (x y : ℤ) → x <ℤ y → int_lt x y ≡ true
-true_lt x y h = grind (arith, ints)
-
-pub not_lt : (x y : ℤ) → int_lt x y ≡ false → y ≤ℤ x
-not_lt x y h = grind (arith, ints)
-
-pub eq_true : (x y : ℤ) → int_eq x y ≡ true → x ≡ y
-eq_true x y h = grind (arith, ints)
-
-pub true_eq : (x y : ℤ) → x ≡ y → int_eq x y ≡ true
-true_eq x y h = grind (arith, ints)
 
 pub lt_not_eq : (x y : ℤ) → (x <ℤ y) ⊎ (y <ℤ x) → int_eq x y ≡ false
 lt_not_eq x y (inl h) = grind (arith, ints)
@@ -40,9 +25,9 @@ lt_not_eq x y (inr h) = grind (arith, ints)
 
 not_eq : (x y : ℤ) → not (int_eq x y) ≡ true → (x <ℤ y) ⊎ (y <ℤ x)
 not_eq x y h =
-    ⊎_elim (λ (e : int_lt x y ≡ true). inl (lt_true x y e))
-    (λ (e : int_lt x y ≡ false). ⊎_elim (λ (f : int_lt y x ≡ true). inr (lt_true y x f))
-    (λ (f : int_lt y x ≡ false). let p = not_lt x y e in let q = not_lt y x f in let g = true_eq x y (omega (arith, ints)) in absurd (false≢true (rw g at h))) (cases_Bool (int_lt y x))) (cases_Bool (int_lt x y))
+    ⊎_elim (λ (e : int_lt x y ≡ true). inl (less_true x y e))
+    (λ (e : int_lt x y ≡ false). ⊎_elim (λ (f : int_lt y x ≡ true). inr (less_true y x f))
+    (λ (f : int_lt y x ≡ false). let p = less_false x y e in let q = less_false y x f in let g = true_eq x y (omega (arith, ints)) in absurd (false≢true (rw g at h))) (cases_Bool (int_lt y x))) (cases_Bool (int_lt x y))
 
 -- ---- soundness
 
@@ -77,20 +62,16 @@ ult_sound a b x y h k e =
     let q = has_ends b y k in
     let wx = has_in_w a x h in
     let wy = has_in_w b y k in
-    let xl = wx.low in
-    let yl = wy.low in
-    let xh = wx.high in
-    let yh = wy.high in
     let u = ltb-true (cast_unsigned w32 x) (cast_unsigned w32 y) e in
     ⊎_elim
-    (λ (n : int_lt x (pos 0) ≡ true). let l = lt_true x (pos 0) n in
+    (λ (n : int_lt x (pos 0) ≡ true). let l = less_true x (pos 0) n in
     let yn : y <ℤ pos 0 = omega (arith, ints) in
     let xy : x <ℤ y = omega (arith, ints) in
     let bn : b.lo <ℤ pos 0 = omega (arith, ints) in
     hull_left (cut a.lo (int_min a.hi (negative_to b))) (cut (int_max a.lo (pos 0)) (int_min a.hi (natural_to b))) x
-    (cut_has a.lo (int_min a.hi (negative_to b)) x wx p.low (rw (true_lt b.lo (pos 0) bn) (omega (arith, ints, clamps)))))
-    (λ (n : int_lt x (pos 0) ≡ false). let l = not_lt x (pos 0) n in
-    let to : x ≤ℤ natural_to b = cond_both (int_lt b.lo (pos 0)) greatest_signed (b.hi -ℤ pos 1) (λ z. x ≤ℤ z) (λ t. wx.high) (λ t. let g = not_lt b.lo (pos 0) t in omega (arith, ints)) in
+    (cut_has a.lo (int_min a.hi (negative_to b)) x wx p.low (rw (true_less b.lo (pos 0) bn) (omega (arith, ints, clamps)))))
+    (λ (n : int_lt x (pos 0) ≡ false). let l = less_false x (pos 0) n in
+    let to : x ≤ℤ natural_to b = cond_both (int_lt b.lo (pos 0)) greatest_signed (b.hi -ℤ pos 1) (λ z. x ≤ℤ z) (λ t. wx.high) (λ t. let g = less_false b.lo (pos 0) t in omega (arith, ints)) in
     hull_right (cut a.lo (int_min a.hi (negative_to b))) (cut (int_max a.lo (pos 0)) (int_min a.hi (natural_to b))) x
     (cut_has (int_max a.lo (pos 0)) (int_min a.hi (natural_to b)) x wx (omega (arith, ints, clamps)) (omega (arith, ints, clamps))))
     (cases_Bool (int_lt x (pos 0)))
@@ -102,17 +83,13 @@ uge_sound a b x y h k e =
     let q = has_ends b y k in
     let wx = has_in_w a x h in
     let wy = has_in_w b y k in
-    let xl = wx.low in
-    let yl = wy.low in
-    let xh = wx.high in
-    let yh = wy.high in
     let u = leb-true (cast_unsigned w32 y) (cast_unsigned w32 x) e in
     ⊎_elim
-    (λ (n : int_lt x (pos 0) ≡ true). let l = lt_true x (pos 0) n in
+    (λ (n : int_lt x (pos 0) ≡ true). let l = less_true x (pos 0) n in
     let from : negative_from b ≤ℤ x = cond_both (int_le (pos 0) b.hi) least_signed b.lo (λ z. z ≤ℤ x) (λ t. wx.low) (λ t. let g = le_false (pos 0) b.hi t in omega (arith, ints)) in
     hull_left (cut (int_max a.lo (negative_from b)) (int_min a.hi (negsuc 0))) (cut (int_max a.lo (natural_from b)) a.hi) x
     (cut_has (int_max a.lo (negative_from b)) (int_min a.hi (negsuc 0)) x wx (omega (arith, ints, clamps)) (omega (arith, ints, clamps))))
-    (λ (n : int_lt x (pos 0) ≡ false). let l = not_lt x (pos 0) n in
+    (λ (n : int_lt x (pos 0) ≡ false). let l = less_false x (pos 0) n in
     let yn : pos 0 ≤ℤ y = omega (arith, ints) in
     let yx : y ≤ℤ x = omega (arith, ints) in
     let bn : pos 0 ≤ℤ b.hi = omega (arith, ints) in
@@ -124,7 +101,7 @@ pub refine_sound : (a b : Interval) (k : Kind) (x y : ℤ) → Has intervals a x
 unfolding refine
 refine_sound a b Lt x y h k e =
     let p = has_ends a x h in
-    let q1 = (has_ends b y k).high in let l = lt_true x y e in
+    let q1 = (has_ends b y k).high in let l = less_true x y e in
     cut_has a.lo (int_min a.hi (b.hi -ℤ pos 1)) x (has_in_w a x h) p.low (omega (arith, ints, clamps))
 refine_sound a b Ge x y h k e =
     let p = has_ends a x h in
@@ -146,7 +123,7 @@ refine_sound a b Le x y h k e =
     cut_has a.lo (int_min a.hi b.hi) x (has_in_w a x h) p.low (omega (arith, ints, clamps))
 refine_sound a b Gt x y h k e =
     let p = has_ends a x h in
-    let q = has_ends b y k in let l = lt_true y x e in
+    let q = has_ends b y k in let l = less_true y x e in
     cut_has (int_max a.lo (b.lo +ℤ pos 1)) a.hi x (has_in_w a x h) (omega (arith, ints, clamps)) p.high
 refine_sound a b Ult x y h k e = ult_sound a b x y h k e
 refine_sound a b Uge x y h k e = uge_sound a b x y h k e
@@ -176,15 +153,11 @@ hull_reached a b k (Some x) (Some y) h i = record {
   high = cond_both (int_lt y.hi x.hi) x.hi y.hi (IsReached a k b) (λ _. h.high) (λ _. i.high);
 }
 
-not_true : (b : Bool) → b ≡ false → not b ≡ true
-not_true false e = refl
-not_true true e = absurd (false≢true (sym e))
-
 -- a number other than n, in an interval that has two
 apart : (b : Interval) (a : Interval) (x : ℤ) → b.lo <ℤ b.hi → a.lo ≤ℤ x → x ≤ℤ a.hi → IsReached a Ne b x
 apart b a x l p q =
-    ⊎_elim (λ (e : int_eq x b.lo ≡ true). let f = eq_true x b.lo e in reached a b Ne x b.hi p q (omega (arith, ints)) (omega (arith, ints)) (not_true (int_eq x b.hi) (lt_not_eq x b.hi (inl (omega (arith, ints))))))
-    (λ (e : int_eq x b.lo ≡ false). reached a b Ne x b.lo p q (omega (arith, ints)) (omega (arith, ints)) (not_true (int_eq x b.lo) e)) (cases_Bool (int_eq x b.lo))
+    ⊎_elim (λ (e : int_eq x b.lo ≡ true). let f = eq_true x b.lo e in reached a b Ne x b.hi p q (omega (arith, ints)) (omega (arith, ints)) (not_from_false (int_eq x b.hi) (lt_not_eq x b.hi (inl (omega (arith, ints))))))
+    (λ (e : int_eq x b.lo ≡ false). reached a b Ne x b.lo p q (omega (arith, ints)) (omega (arith, ints)) (not_from_false (int_eq x b.lo) e)) (cases_Bool (int_eq x b.lo))
 
 without_reached : (a b : Interval) → b.hi ≤ℤ b.lo → IfSome (without a b.lo) (AreReached a Ne b)
 unfolding without
@@ -205,8 +178,8 @@ without_reached a b l =
     let fl : r.lo ≡ cond (int_eq a.lo b.lo) (a.lo +ℤ pos 1) a.lo = omega (arith, ints, clamps) in
     let gh : r.hi ≡ cond (int_eq a.hi b.lo) (a.hi -ℤ pos 1) a.hi = omega (arith, ints, clamps) in
     record {
-      low = reached a b Ne r.lo b.lo (omega (arith, ints)) (omega (arith, ints)) (omega (arith, ints)) bo (not_true (int_eq r.lo b.lo) (rw fl low.1));
-      high = reached a b Ne r.hi b.lo (omega (arith, ints)) (omega (arith, ints)) (omega (arith, ints)) bo (not_true (int_eq r.hi b.lo) (rw gh high.1));
+      low = reached a b Ne r.lo b.lo (omega (arith, ints)) (omega (arith, ints)) (omega (arith, ints)) bo (not_from_false (int_eq r.lo b.lo) (rw fl low.1));
+      high = reached a b Ne r.hi b.lo (omega (arith, ints)) (omega (arith, ints)) (omega (arith, ints)) bo (not_from_false (int_eq r.hi b.lo) (rw gh high.1));
     })
 
 -- the cut between two bounds that every number of it reaches
@@ -232,7 +205,7 @@ uge_stands x y w v (inl (n, inl h)) = let a = w.low in let b = w.high in let c =
 uge_stands x y w v (inl (n, inr h)) = let a = w.low in let b = w.high in let c = v.low in let d = v.high in le-leb (cast_unsigned w32 y) (cast_unsigned w32 x) (omega (arith, ints))
 uge_stands x y w v (inr (n, h)) = let a = w.low in let b = w.high in let c = v.low in let d = v.high in le-leb (cast_unsigned w32 y) (cast_unsigned w32 x) (omega (arith, ints))
 
-member_signed : (b : Interval) (y : ℤ) → b.lo ≤ℤ y → y ≤ℤ b.hi → IsSigned y
+pub member_signed : (b : Interval) (y : ℤ) → b.lo ≤ℤ y → y ≤ℤ b.hi → IsSigned y
 member_signed b y p q = let e = b.ends in record { low = omega (arith, ints); high = omega (arith, ints) }
 
 ult_reached : (a b : Interval) → IfSome (refine a Ult b) (AreReached a Ult b)
@@ -243,7 +216,7 @@ ult_reached a b =
     hull_reached a b Ult (cut a.lo (int_min a.hi (negative_to b))) (cut (int_max a.lo (pos 0)) (int_min a.hi (natural_to b)))
     (cut_reached a b Ult a.lo (int_min a.hi (negative_to b)) (omega (arith, ints)) (omega (arith, ints, clamps))
     (λ x w p q. ⊎_elim
-    (λ (t : int_lt b.lo (pos 0) ≡ true). let l = lt_true b.lo (pos 0) t in
+    (λ (t : int_lt b.lo (pos 0) ≡ true). let l = less_true b.lo (pos 0) t in
     let q2 : x ≤ℤ int_min a.hi (int_min b.hi (negsuc 0) -ℤ pos 1) = rw t at q in
     let u : b.lo ≤ℤ int_min b.hi (negsuc 0) = omega (arith, ints, clamps) in
     let v : int_min b.hi (negsuc 0) ≤ℤ b.hi = omega (arith, ints, clamps) in
@@ -251,10 +224,10 @@ ult_reached a b =
     (λ (t : int_lt b.lo (pos 0) ≡ false). let wl = w.low in let q2 : x ≤ℤ int_min a.hi (least_signed -ℤ pos 1) = rw t at q in absurd (omega (arith, ints, clamps))) (cases_Bool (int_lt b.lo (pos 0)))))
     (cut_reached a b Ult (int_max a.lo (pos 0)) (int_min a.hi (natural_to b)) (omega (arith, ints, clamps)) (omega (arith, ints, clamps))
     (λ x w p q. let p2 : pos 0 ≤ℤ x = omega (arith, ints, clamps) in ⊎_elim
-    (λ (t : int_lt b.lo (pos 0) ≡ true). let l = lt_true b.lo (pos 0) t in
+    (λ (t : int_lt b.lo (pos 0) ≡ true). let l = less_true b.lo (pos 0) t in
     let u : b.lo ≤ℤ b.lo = omega (arith, ints) in
     (b.lo, u, f.ordered, ult_stands x b.lo w (member_signed b b.lo u f.ordered) (inl (l, inl p2))))
-    (λ (t : int_lt b.lo (pos 0) ≡ false). let l = not_lt b.lo (pos 0) t in
+    (λ (t : int_lt b.lo (pos 0) ≡ false). let l = less_false b.lo (pos 0) t in
     let q2 : x ≤ℤ int_min a.hi (b.hi -ℤ pos 1) = rw t at q in
     let u : b.hi ≤ℤ b.hi = omega (arith, ints) in
     (b.hi, f.ordered, u, ult_stands x b.hi w (member_signed b b.hi f.ordered u) (inr (p2, omega (arith, ints, clamps))))) (cases_Bool (int_lt b.lo (pos 0)))))
@@ -288,7 +261,7 @@ unfolding refine
 refine_reached a b Lt =
     let o = b.ends.ordered in
     let u : b.hi ≤ℤ b.hi = omega (arith, ints) in
-    cut_reached a b Lt a.lo (int_min a.hi (b.hi -ℤ pos 1)) (omega (arith, ints)) (omega (arith, ints, clamps)) (λ x w p q. (b.hi, o, u, true_lt x b.hi (omega (arith, ints, clamps))))
+    cut_reached a b Lt a.lo (int_min a.hi (b.hi -ℤ pos 1)) (omega (arith, ints)) (omega (arith, ints, clamps)) (λ x w p q. (b.hi, o, u, true_less x b.hi (omega (arith, ints, clamps))))
 refine_reached a b Ge =
     let o = b.ends.ordered in
     let u : b.lo ≤ℤ b.lo = omega (arith, ints) in
@@ -307,7 +280,7 @@ refine_reached a b Le =
 refine_reached a b Gt =
     let o = b.ends.ordered in
     let u : b.lo ≤ℤ b.lo = omega (arith, ints) in
-    cut_reached a b Gt (int_max a.lo (b.lo +ℤ pos 1)) a.hi (omega (arith, ints, clamps)) (omega (arith, ints)) (λ x w p q. (b.lo, u, o, true_lt b.lo x (omega (arith, ints, clamps))))
+    cut_reached a b Gt (int_max a.lo (b.lo +ℤ pos 1)) a.hi (omega (arith, ints, clamps)) (omega (arith, ints)) (λ x w p q. (b.lo, u, o, true_less b.lo x (omega (arith, ints, clamps))))
 refine_reached a b Ult = ult_reached a b
 refine_reached a b Uge = uge_reached a b
 

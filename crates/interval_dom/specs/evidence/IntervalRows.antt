@@ -43,19 +43,15 @@ and_sound a b x y h k w =
     cond_both (int_le (pos 0) a.lo) (cond (int_le (pos 0) b.lo) (cut (pos 0) (int_min a.hi b.hi)) (cut (pos 0) a.hi)) (cond (int_le (pos 0) b.lo) (cut (pos 0) b.hi) (Some top)) (λ o. IsSomeAnd o (λ r. Has intervals r (signed_and x y)))
     (λ e. let f = le_true (pos 0) a.lo e in
     let s = signed_and_left x y (omega (arith, ints)) (has_in_w a x h) in
-    let s0 = s.0 in
-    let s1 = s.1 in
     cond_both (int_le (pos 0) b.lo) (cut (pos 0) (int_min a.hi b.hi)) (cut (pos 0) a.hi) (λ o. IsSomeAnd o (λ r. Has intervals r (signed_and x y)))
     (λ g. let i = le_true (pos 0) b.lo g in
     let t = signed_and_right x y (omega (arith, ints)) (has_in_w b y k) in
-    let t1 = t.1 in
-    cut_has (pos 0) (int_min a.hi b.hi) (signed_and x y) w s.0 (omega (arith, ints, clamps)))
-    (λ g. cut_has (pos 0) a.hi (signed_and x y) w s.0 (omega (arith, ints))))
+    cut_has (pos 0) (int_min a.hi b.hi) (signed_and x y) w s.low (omega (arith, ints, clamps)))
+    (λ g. cut_has (pos 0) a.hi (signed_and x y) w s.low (omega (arith, ints))))
     (λ e. cond_both (int_le (pos 0) b.lo) (cut (pos 0) b.hi) (Some top) (λ o. IsSomeAnd o (λ r. Has intervals r (signed_and x y)))
     (λ g. let i = le_true (pos 0) b.lo g in
     let t = signed_and_right x y (omega (arith, ints)) (has_in_w b y k) in
-    let t1 = t.1 in
-    cut_has (pos 0) b.hi (signed_and x y) w t.0 (omega (arith, ints)))
+    cut_has (pos 0) b.hi (signed_and x y) w t.low (omega (arith, ints)))
     (λ g. top_has (signed_and x y) w))
 
 pub and_mono : Mono2 intervals and_row
@@ -182,8 +178,7 @@ xor_sound a b x y h k w =
     let is = pw.is in
     let above = pw.above in
     let z = signed_xor_below x y pw.exponent (omega (arith, ints)) (omega (arith, ints)) (omega (arith, ints, clamps)) (omega (arith, ints, clamps)) (omega arith) in
-    let z1 = z.1 in
-    cut_has (pos 0) (pos (power_of a b) -ℤ pos 1) (signed_xor x y) w z.0 (omega (arith, ints)))
+    cut_has (pos 0) (pos (power_of a b) -ℤ pos 1) (signed_xor x y) w z.low (omega (arith, ints)))
     (λ e. top_has (signed_xor x y) w)
 
 pub xor_mono : Mono2 intervals xor_row
@@ -210,8 +205,7 @@ nor_sound a b x y h k w =
     let is = pw.is in
     let above = pw.above in
     let z = signed_nor_above x y pw.exponent (omega (arith, ints)) (omega (arith, ints)) (omega (arith, ints, clamps)) (omega (arith, ints, clamps)) (omega arith) in
-    let z0 = z.0 in
-    cut_has (neg_ℤ (pos (power_of a b))) (negsuc 0) (signed_nor x y) w (omega (arith, ints)) z.1)
+    cut_has (neg_ℤ (pos (power_of a b))) (negsuc 0) (signed_nor x y) w (omega (arith, ints)) z.high)
     (λ e. top_has (signed_nor x y) w)
 
 pub nor_mono : Mono2 intervals nor_row
@@ -230,8 +224,7 @@ and_not_sound a b x y h k w =
     cond_both (int_le (pos 0) a.lo) (cut (pos 0) a.hi) (Some top) (λ o. IsSomeAnd o (λ r. Has intervals r (signed_and_not x y)))
     (λ e. let f = le_true (pos 0) a.lo e in
     let s = signed_and_not_left x y (omega (arith, ints)) (has_in_w a x h) in
-    let s1 = s.1 in
-    cut_has (pos 0) a.hi (signed_and_not x y) w s.0 (omega (arith, ints)))
+    cut_has (pos 0) a.hi (signed_and_not x y) w s.low (omega (arith, ints)))
     (λ e. top_has (signed_and_not x y) w)
 
 pub and_not_mono : Mono2 intervals and_not_row
@@ -247,14 +240,14 @@ and_not_mono a a' b b' h k =
 
 pub halved_mono : (x y : ℤ) → x ≤ℤ y → halved x ≤ℤ halved y
 halved_mono x y h =
-    let p = (halved_twice x).0 in
-    let q = (halved_twice y).1 in
+    let p = (halved_twice x).low in
+    let q = (halved_twice y).high in
     omega (arith, ints)
 
 pub right_sound : SoundFlag intervals right_row shifted_right
 unfolding right_row
 right_sound a None c x h m w = top_has (shifted_right c x) w
-right_sound a (Some true) true x h m w = let s = shifted_right_set x (has_in_w a x h) in cut_has least_signed (negsuc 0) (shifted_right true x) w s.0 s.1
+right_sound a (Some true) true x h m w = let s = shifted_right_set x (has_in_w a x h) in cut_has least_signed (negsuc 0) (shifted_right true x) w s.low s.high
 right_sound a (Some true) false x h m w = absurd (false≢true (sym m))
 right_sound a (Some false) true x h m w = absurd (false≢true m)
 right_sound a (Some false) false x h m w =
@@ -265,10 +258,10 @@ right_sound a (Some false) false x h m w =
     let l = halved_mono a.lo x p.low in
     let g = halved_mono x a.hi p.high in
     cut_has (halved a.lo) (halved a.hi) (shifted_right false x) w (omega (arith, ints)) (omega (arith, ints)))
-    (λ e. let s = shifted_right_clear x (has_in_w a x h) in cut_has (pos 0) greatest_signed (shifted_right false x) w s.0 s.1)
+    (λ e. let s = shifted_right_clear x (has_in_w a x h) in cut_has (pos 0) greatest_signed (shifted_right false x) w s.low s.high)
 
 halved_natural : (x : ℤ) → pos 0 ≤ℤ x → pos 0 ≤ℤ halved x
-halved_natural x h = let p = (halved_twice x).1 in omega (arith, ints)
+halved_natural x h = let p = (halved_twice x).high in omega (arith, ints)
 
 pub right_mono : MonoFlag intervals right_row
 unfolding right_row
@@ -285,7 +278,7 @@ right_mono a a' (Some false) (Some false) h l =
     cond_below (int_le (pos 0) a.lo) (int_le (pos 0) a'.lo) (cut (halved a.lo) (halved a.hi)) (cut (pos 0) greatest_signed) (cut (halved a'.lo) (halved a'.hi)) (cut (pos 0) greatest_signed) (natural_kept a a' h)
     (λ _ _. cut_mono (halved a.lo) (halved a.hi) (halved a'.lo) (halved a'.hi) (halved_mono a'.lo a.lo p.low) (halved_mono a.hi a'.hi p.high))
     (λ t _. let n = halved_natural a.lo (le_true (pos 0) a.lo t) in
-    let s = (halved_twice a.hi).0 in
+    let s = (halved_twice a.hi).low in
     let o = a.ends.high in
     cut_mono (halved a.lo) (halved a.hi) (pos 0) greatest_signed n (omega (arith, ints)))
     (λ _ _. cut_mono (pos 0) greatest_signed (pos 0) greatest_signed zero_le (omega (arith, ints)))
