@@ -31,9 +31,6 @@ least_at a n k x e h l = subst (λ (o : Option ℤ). IsSomeAnd o (λ k. k ≤ℤ
 least_none : (a : Congruence) (n x : ℤ) → None ≡ least_from a n → Has congruences a x → n ≤ℤ x → ⊥
 least_none a n x e h l = subst (λ (o : Option ℤ). IsSomeAnd o (λ k. k ≤ℤ x)) (sym e) (least_first a n x h l)
 
-pub least_signed_at : (a : Congruence) (n k : ℤ) → Some k ≡ least_from a n → IsSigned k
-least_signed_at a n k e = (has_parts a k (least_some a n k e).0).0
-
 -- ---- where one of them has one member
 
 pub one_none : (a b : Congruence) (n : ℤ) → None ≡ least_from a n → IsNextCommon a b n None

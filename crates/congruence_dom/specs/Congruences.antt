@@ -28,8 +28,13 @@ congruence_if m r false h = None
 
 -- the congruence of z, whatever the modulus
 abbrev pub make_when : (m : ℕ) (z : ℤ) (b : Bool) → is_small m ≡ b → Option Congruence
-make_when m z true e = Some (congruence (pos m) (reduce m z) (reduced_form m z (small_parts m e).0 (small_parts m e).1))
-make_when m z false e = congruence_if (pos 0) (next_from m z least_signed) (is_signed (next_from m z least_signed)) (λ e. single_form (next_from m z least_signed) (is_signed_true (next_from m z least_signed) e))
+make_when m z true e =
+    Some (congruence (pos m) (reduce m z)
+    (reduced_form m z (small_parts m e).0 (small_parts m e).1))
+make_when m z false e =
+    congruence_if (pos 0) (next_from m z least_signed) (is_signed (next_from m z least_signed))
+    (λ e. single_form (next_from m z least_signed)
+    (is_signed_true (next_from m z least_signed) e))
 
 unfoldable pub make : ℕ → ℤ → Option Congruence
 make m z = make_when m z (is_small m) refl
@@ -64,7 +69,8 @@ sar a = cond (nat_eq (mod_of a % 2) 0) (make (mod_of a / 2) (halved a.residue)) 
 
 unfoldable pub left_through : Congruence → Option Bool → Option Congruence
 left_through a None = Some top
-left_through a (Some b) = make (gcd (2 * mod_of a) (2 ^ 32)) (a.residue +ℤ a.residue +ℤ cond b (pos 1) (pos 0))
+left_through a (Some b) =
+    make (gcd (2 * mod_of a) (2 ^ 32)) (a.residue +ℤ a.residue +ℤ cond b (pos 1) (pos 0))
 
 abbrev pub no_row : Congruence → Congruence → Option Congruence
 no_row a b = Some top
@@ -79,10 +85,14 @@ abbrev pub is_member : Congruence → ℤ → Bool
 is_member a n = is_signed n && divides (mod_of a) (nat_abs (n -ℤ a.residue))
 
 abbrev pub least_from : Congruence → ℤ → Option ℤ
-least_from a n = let k = next_from (mod_of a) a.residue (int_max n least_signed) in cond (int_le n k && int_le k greatest_signed) (Some k) None
+least_from a n =
+    let k = next_from (mod_of a) a.residue (int_max n least_signed) in
+    cond (int_le n k && int_le k greatest_signed) (Some k) None
 
 abbrev pub greatest_to : Congruence → ℤ → Option ℤ
-greatest_to a n = let k = next_to (mod_of a) a.residue (int_min n greatest_signed) in cond (int_le least_signed k && int_le k n) (Some k) None
+greatest_to a n =
+    let k = next_to (mod_of a) a.residue (int_min n greatest_signed) in
+    cond (int_le least_signed k && int_le k n) (Some k) None
 
 -- a itself where it has two members from i to j, its one member i where they meet
 abbrev pub narrow_to : Congruence → (i j : ℤ) → Option Congruence
@@ -122,7 +132,8 @@ refine a k b = Some a
 abbrev pub congruences : Domain Congruence
 congruences = record {
   has = is_member;
-  includes = λ a b. divides (mod_of a) (mod_of b) && divides (mod_of a) (nat_abs (b.residue -ℤ a.residue));
+  includes =
+      λ a b. divides (mod_of a) (mod_of b) && divides (mod_of a) (nat_abs (b.residue -ℤ a.residue));
   height = λ a. cond (nat_eq (mod_of a) 0) (2 ^ 32) (mod_of a);
   constant = constant;
   top = top;

@@ -137,7 +137,8 @@ impl NumDomain for Congruence {
     fn refine(&self, kind: Kind, other: &Congruence) -> Option<Congruence>
         ensures row { result ≡ refine self.now kind other.now }
         ensures common { kind ≡ Kind.Eq → IfSome result (AreCommonMembers self.now other.now) }
-        ensures none { kind ≡ Kind.Eq → result ≡ None → (n : ℤ) → AreCommon self.now other.now n → ⊥ }
+        ensures none { kind ≡ Kind.Eq → result ≡ None
+            → (n : ℤ) → AreCommon self.now other.now n → ⊥ }
     {
         match kind {
             Kind::Eq => self.common(other),

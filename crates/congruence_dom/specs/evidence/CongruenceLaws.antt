@@ -1,7 +1,6 @@
 -- The laws of congruences.
 use Rattle.std.specs.Prelude.{◌≡◌, ℕ, ◌*◌, ◌/◌, ◌%◌, ◌<◌, ◌^◌, ℤ, pos, neg_ℤ, ◌+ℤ◌, ◌-ℤ◌, ◌≤ℤ◌, Bool, true, false, cond, nat_abs, nat_eq, Option, Some, None, IsSomeAnd, IfSome}
 use Rattle.std.specs.Int.{◌∣◌}
-use Rattle.std.specs.Ordering.{int_eq}
 use Rattle.std.proofs.Common.{refl, sym, ap, subst, arith, ◌∙◌}
 use Rattle.std.proofs.Math.Nat.{dvd_trans, one-dvd, mod-eq-zero_of_dvd, dvd_of_mod-eq-zero, mul-dvd-mul_left, dvd_of_mul-dvd-mul_left, eq-zero_of_zero-dvd}
 use Rattle.std.proofs.lemmas.Int.{ints}
@@ -28,6 +27,7 @@ use Rattle.congruence_dom.specs.Congruences.{make, top, single, constant, join, 
 use Rattle.congruence_dom.specs.evidence.CongruenceOrder.{has_parts, parts_has, below_parts, parts_below, reduced_below, make_has, make_mono, make_zero_below, only_member, least_is, greatest_is, least_first, greatest_first, below_has, below_refl, below_trans, below_antisym, height_falls, narrow_has, narrow_below, narrow_mono, join_least}
 use Rattle.congruence_dom.specs.evidence.CommonMembers.{refine_eq_sound, refine_eq_mono, refine_eq_below}
 use Rattle.congruence_dom.specs.declared.congruence.Congruence.{Congruence}
+use Rattle.viper_word.proofs.Integers.{eq_true}
 
 below_top : (a : Congruence) → Below congruences a top
 below_top a = parts_below a top (one-dvd (mod_of a)) (record { holds = one-dvd (nat_abs (a.residue -ℤ pos 0)) })
@@ -71,7 +71,7 @@ constant_below a n h =
 zero_divides : (a a' : Congruence) → Below congruences a a' → mod_of a' ≡ 0 → (mod_of a ≡ 0) × (a.residue ≡ a'.residue)
 zero_divides a a' h e =
     let p = below_parts a a' h in
-    (only_zero (mod_of a) (subst (λ (m : ℕ). m ∣ mod_of a) e p.0), only_member (mod_of a') a.residue a'.residue p.1 e)
+    (only_zero (mod_of a) (subst (λ (m : ℕ). m ∣ mod_of a) e p.modulus), only_member (mod_of a') a.residue a'.residue p.residue e)
   where
     only_zero : (n : ℕ) → 0 ∣ n → n ≡ 0
     only_zero n d = eq-zero_of_zero-dvd d
@@ -97,7 +97,7 @@ common_grows : (a a' b b' : Congruence) → Below congruences a a' → Below con
 common_grows a a' b b' h k =
     let p = below_parts a a' h in
     let q = below_parts b b' k in
-    gcd_greatest (mod_of a) (mod_of b) (common_modulus a' b') (dvd_trans (common_modulus a' b') (gcd_left (mod_of a') (mod_of b')) p.0) (dvd_trans (common_modulus a' b') (gcd_right (mod_of a') (mod_of b')) q.0)
+    gcd_greatest (mod_of a) (mod_of b) (common_modulus a' b') (dvd_trans (common_modulus a' b') (gcd_left (mod_of a') (mod_of b')) p.modulus) (dvd_trans (common_modulus a' b') (gcd_right (mod_of a') (mod_of b')) q.modulus)
 
 wrapped_grows : (a a' b b' : Congruence) → Below congruences a a' → Below congruences b b' → wrapped_modulus a' b' ∣ wrapped_modulus a b
 wrapped_grows a a' b b' h k =
@@ -139,8 +139,8 @@ sar_mono a a' h =
     cond_both (nat_eq (mod_of a' % 2) 0) (make (mod_of a' / 2) (halved a'.residue)) (Some top) (λ o. BelowOption congruences (cond (nat_eq (mod_of a % 2) 0) (make (mod_of a / 2) (halved a.residue)) (Some top)) o)
     (λ e.
     let even' = eqb-true (mod_of a' % 2) 0 e in
-    let even : mod_of a % 2 ≡ 0 = mod-eq-zero_of_dvd 2 (dvd_trans 2 (dvd_of_mod-eq-zero 2 even') p.0) in
-    rw (eq-eqb (mod_of a % 2) 0 even) (make_mono (mod_of a / 2) (mod_of a' / 2) (halved a.residue) (halved a'.residue) (halves_divide (mod_of a') (mod_of a) even' even p.0) (Divides-halved (mod_of a') a.residue a'.residue even' p.1)))
+    let even : mod_of a % 2 ≡ 0 = mod-eq-zero_of_dvd 2 (dvd_trans 2 (dvd_of_mod-eq-zero 2 even') p.modulus) in
+    rw (eq-eqb (mod_of a % 2) 0 even) (make_mono (mod_of a / 2) (mod_of a' / 2) (halved a.residue) (halved a'.residue) (halves_divide (mod_of a') (mod_of a) even' even p.modulus) (Divides-halved (mod_of a') a.residue a'.residue even' p.residue)))
     (λ e. below_some_top (cond (nat_eq (mod_of a % 2) 0) (make (mod_of a / 2) (halved a.residue)) (Some top)))
 
 twice_in : (m : ℕ) (x s : ℤ) → Divides m (x -ℤ s) → Divides (2 * m) (x +ℤ x -ℤ (s +ℤ s))
@@ -168,8 +168,8 @@ left_mono_at a a' c h =
     let p = below_parts a a' h in
     let g' = gcd (2 * mod_of a') (2 ^ 32) in
     make_mono (gcd (2 * mod_of a) (2 ^ 32)) g' (a.residue +ℤ a.residue +ℤ cond c (pos 1) (pos 0)) (a'.residue +ℤ a'.residue +ℤ cond c (pos 1) (pos 0))
-    (gcd_greatest (2 * mod_of a) (2 ^ 32) g' (dvd_trans g' (gcd_left (2 * mod_of a') (2 ^ 32)) (mul-dvd-mul_left (mod_of a') 2 p.0)) (gcd_right (2 * mod_of a') (2 ^ 32)))
-    (Divides_trans g' (2 * mod_of a') (a.residue +ℤ a.residue +ℤ cond c (pos 1) (pos 0) -ℤ (a'.residue +ℤ a'.residue +ℤ cond c (pos 1) (pos 0))) (gcd_left (2 * mod_of a') (2 ^ 32)) (left_in (mod_of a') a.residue a'.residue c p.1))
+    (gcd_greatest (2 * mod_of a) (2 ^ 32) g' (dvd_trans g' (gcd_left (2 * mod_of a') (2 ^ 32)) (mul-dvd-mul_left (mod_of a') 2 p.modulus)) (gcd_right (2 * mod_of a') (2 ^ 32)))
+    (Divides_trans g' (2 * mod_of a') (a.residue +ℤ a.residue +ℤ cond c (pos 1) (pos 0) -ℤ (a'.residue +ℤ a'.residue +ℤ cond c (pos 1) (pos 0))) (gcd_left (2 * mod_of a') (2 ^ 32)) (left_in (mod_of a') a.residue a'.residue c p.residue))
 
 left_mono : MonoFlag congruences left_through
 unfolding left_through
@@ -178,9 +178,6 @@ left_mono a a' None (Some c) h l = absurd l
 left_mono a a' (Some b) (Some c) h l = subst (λ (d : Bool). BelowOption congruences (left_through a (Some b)) (left_through a' (Some d))) l (left_mono_at a a' b h)
 
 -- ---- refining
-
-eq_true : (x y : ℤ) → int_eq x y ≡ true → x ≡ y
-eq_true x y h = grind (arith, ints)
 
 below_self : (a : Congruence) → BelowOption congruences (Some a) (Some a)
 below_self a = below_refl a
@@ -237,8 +234,8 @@ unfolding all_on
 all_on_mono a a' q t h e =
     let p = all_on_parts a' q t e in
     let b = below_parts a a' h in
-    let d : Divides (nat_abs q) (a.residue -ℤ t) = Divides-sum (nat_abs q) (a.residue -ℤ a'.residue) (a'.residue -ℤ t) (a.residue -ℤ t) (Divides_trans (nat_abs q) (mod_of a') (a.residue -ℤ a'.residue) p.0 b.1) p.1 (omega (arith, ints)) in
-    and_from (divides (nat_abs q) (mod_of a)) (divides (nat_abs q) (nat_abs (a.residue -ℤ t))) (true_divides (nat_abs q) (mod_of a) (dvd_trans (nat_abs q) p.0 b.0)) (true_divides (nat_abs q) (nat_abs (a.residue -ℤ t)) d.holds)
+    let d : Divides (nat_abs q) (a.residue -ℤ t) = Divides-sum (nat_abs q) (a.residue -ℤ a'.residue) (a'.residue -ℤ t) (a.residue -ℤ t) (Divides_trans (nat_abs q) (mod_of a') (a.residue -ℤ a'.residue) p.0 b.residue) p.1 (omega (arith, ints)) in
+    and_from (divides (nat_abs q) (mod_of a)) (divides (nat_abs q) (nat_abs (a.residue -ℤ t))) (true_divides (nat_abs q) (mod_of a) (dvd_trans (nat_abs q) p.0 b.modulus)) (true_divides (nat_abs q) (nat_abs (a.residue -ℤ t)) d.holds)
 
 -- ---- all together
 
@@ -296,18 +293,18 @@ sound_laws = record {
 
 mono_laws : MonoLaws congruences
 mono_laws = record {
-  add = λ a a' b b' h k. let g' = common_modulus a' b' in make_mono (common_modulus a b) g' (a.residue +ℤ b.residue) (a'.residue +ℤ b'.residue) (common_grows a a' b b' h k) (sum_in g' a' b' a.residue b.residue (gcd_left (mod_of a') (mod_of b')) (gcd_right (mod_of a') (mod_of b')) (below_parts a a' h).1 (below_parts b b' k).1);
-  sub = λ a a' b b' h k. let g' = common_modulus a' b' in make_mono (common_modulus a b) g' (a.residue -ℤ b.residue) (a'.residue -ℤ b'.residue) (common_grows a a' b b' h k) (difference_in g' a' b' a.residue b.residue (gcd_left (mod_of a') (mod_of b')) (gcd_right (mod_of a') (mod_of b')) (below_parts a a' h).1 (below_parts b b' k).1);
-  add_wrap = λ a a' b b' h k. let g' = wrapped_modulus a' b' in make_mono (wrapped_modulus a b) g' (a.residue +ℤ b.residue) (a'.residue +ℤ b'.residue) (wrapped_grows a a' b b' h k) (sum_in g' a' b' a.residue b.residue (wrapped_left a' b') (wrapped_right a' b') (below_parts a a' h).1 (below_parts b b' k).1);
-  sub_wrap = λ a a' b b' h k. let g' = wrapped_modulus a' b' in make_mono (wrapped_modulus a b) g' (a.residue -ℤ b.residue) (a'.residue -ℤ b'.residue) (wrapped_grows a a' b b' h k) (difference_in g' a' b' a.residue b.residue (wrapped_left a' b') (wrapped_right a' b') (below_parts a a' h).1 (below_parts b b' k).1);
+  add = λ a a' b b' h k. let g' = common_modulus a' b' in make_mono (common_modulus a b) g' (a.residue +ℤ b.residue) (a'.residue +ℤ b'.residue) (common_grows a a' b b' h k) (sum_in g' a' b' a.residue b.residue (gcd_left (mod_of a') (mod_of b')) (gcd_right (mod_of a') (mod_of b')) (below_parts a a' h).residue (below_parts b b' k).residue);
+  sub = λ a a' b b' h k. let g' = common_modulus a' b' in make_mono (common_modulus a b) g' (a.residue -ℤ b.residue) (a'.residue -ℤ b'.residue) (common_grows a a' b b' h k) (difference_in g' a' b' a.residue b.residue (gcd_left (mod_of a') (mod_of b')) (gcd_right (mod_of a') (mod_of b')) (below_parts a a' h).residue (below_parts b b' k).residue);
+  add_wrap = λ a a' b b' h k. let g' = wrapped_modulus a' b' in make_mono (wrapped_modulus a b) g' (a.residue +ℤ b.residue) (a'.residue +ℤ b'.residue) (wrapped_grows a a' b b' h k) (sum_in g' a' b' a.residue b.residue (wrapped_left a' b') (wrapped_right a' b') (below_parts a a' h).residue (below_parts b b' k).residue);
+  sub_wrap = λ a a' b b' h k. let g' = wrapped_modulus a' b' in make_mono (wrapped_modulus a b) g' (a.residue -ℤ b.residue) (a'.residue -ℤ b'.residue) (wrapped_grows a a' b b' h k) (difference_in g' a' b' a.residue b.residue (wrapped_left a' b') (wrapped_right a' b') (below_parts a a' h).residue (below_parts b b' k).residue);
   xor = exact2_mono congruences single order_laws single_laws signed_xor no_row (no_row_sound signed_xor) no_row_mono;
   bit_and = exact2_mono congruences single order_laws single_laws signed_and no_row (no_row_sound signed_and) no_row_mono;
   nor = exact2_mono congruences single order_laws single_laws signed_nor no_row (no_row_sound signed_nor) no_row_mono;
   and_not = exact2_mono congruences single order_laws single_laws signed_and_not no_row (no_row_sound signed_and_not) no_row_mono;
-  neg = λ a a' h. let p = below_parts a a' h in let g' = gcd (mod_of a') (2 ^ 32) in make_mono (gcd (mod_of a) (2 ^ 32)) g' (neg_ℤ a.residue) (neg_ℤ a'.residue) (gcd_greatest (mod_of a) (2 ^ 32) g' (dvd_trans g' (gcd_left (mod_of a') (2 ^ 32)) p.0) (gcd_right (mod_of a') (2 ^ 32))) (neg_in g' a' a.residue (gcd_left (mod_of a') (2 ^ 32)) p.1);
+  neg = λ a a' h. let p = below_parts a a' h in let g' = gcd (mod_of a') (2 ^ 32) in make_mono (gcd (mod_of a) (2 ^ 32)) g' (neg_ℤ a.residue) (neg_ℤ a'.residue) (gcd_greatest (mod_of a) (2 ^ 32) g' (dvd_trans g' (gcd_left (mod_of a') (2 ^ 32)) p.modulus) (gcd_right (mod_of a') (2 ^ 32))) (neg_in g' a' a.residue (gcd_left (mod_of a') (2 ^ 32)) p.residue);
   sar = sar_mono;
-  shl = λ a a' h. let p = below_parts a a' h in make_mono (2 * mod_of a) (2 * mod_of a') (a.residue +ℤ a.residue) (a'.residue +ℤ a'.residue) (mul-dvd-mul_left (mod_of a') 2 p.0) (twice_in (mod_of a') a.residue a'.residue p.1);
-  moved = λ k a a' h. let p = below_parts a a' h in make_mono (mod_of a) (mod_of a') (a.residue +ℤ k) (a'.residue +ℤ k) p.0 (Divides_is (mod_of a') (a.residue -ℤ a'.residue) (a.residue +ℤ k -ℤ (a'.residue +ℤ k)) p.1 (omega (arith, ints)));
+  shl = λ a a' h. let p = below_parts a a' h in make_mono (2 * mod_of a) (2 * mod_of a') (a.residue +ℤ a.residue) (a'.residue +ℤ a'.residue) (mul-dvd-mul_left (mod_of a') 2 p.modulus) (twice_in (mod_of a') a.residue a'.residue p.residue);
+  moved = λ k a a' h. let p = below_parts a a' h in make_mono (mod_of a) (mod_of a') (a.residue +ℤ k) (a'.residue +ℤ k) p.modulus (Divides_is (mod_of a') (a.residue -ℤ a'.residue) (a.residue +ℤ k -ℤ (a'.residue +ℤ k)) p.residue (omega (arith, ints)));
   right_through = exact_flag_mono congruences single order_laws single_laws shifted_right no_flag_row (no_flag_sound shifted_right) no_flag_mono;
   left_through = left_mono;
   refine = refine_mono;

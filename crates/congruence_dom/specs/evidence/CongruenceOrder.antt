@@ -31,10 +31,15 @@ has_parts a n h =
 pub parts_has : (a : Congruence) (n : ℤ) → IsSigned n → Divides (mod_of a) (n -ℤ a.residue) → Has congruences a n
 parts_has a n w d = record { holds = and_from (is_signed n) (divides (mod_of a) (nat_abs (n -ℤ a.residue))) (true_is_signed n w) (true_divides (mod_of a) (nat_abs (n -ℤ a.residue)) d.holds) }
 
-pub below_parts : (a b : Congruence) → Below congruences a b → (mod_of b ∣ mod_of a) × Divides (mod_of b) (a.residue -ℤ b.residue)
+-- all members of a are members of b, by moduli and residues
+pub record Contained (a b : Congruence) : Type 0 where
+  pub modulus : mod_of b ∣ mod_of a
+  pub residue : Divides (mod_of b) (a.residue -ℤ b.residue)
+
+pub below_parts : (a b : Congruence) → Below congruences a b → Contained a b
 below_parts a b h =
     let p = and_parts (divides (mod_of b) (mod_of a)) (divides (mod_of b) (nat_abs (a.residue -ℤ b.residue))) h.holds in
-    (divides_true (mod_of b) (mod_of a) p.0, record { holds = divides_true (mod_of b) (nat_abs (a.residue -ℤ b.residue)) p.1 })
+    record { modulus = divides_true (mod_of b) (mod_of a) p.0; residue = record { holds = divides_true (mod_of b) (nat_abs (a.residue -ℤ b.residue)) p.1 } }
 
 pub parts_below : (a b : Congruence) → mod_of b ∣ mod_of a → Divides (mod_of b) (a.residue -ℤ b.residue) → Below congruences a b
 parts_below a b h d = record { holds = and_from (divides (mod_of b) (mod_of a)) (divides (mod_of b) (nat_abs (a.residue -ℤ b.residue))) (true_divides (mod_of b) (mod_of a) h) (true_divides (mod_of b) (nat_abs (a.residue -ℤ b.residue)) d.holds) }
@@ -239,7 +244,7 @@ pub below_has : (a b : Congruence) (n : ℤ) → Below congruences a b → Has c
 below_has a b n h k =
     let p = below_parts a b h in
     let q = has_parts a n k in
-    parts_has b n q.0 (Divides-sum (mod_of b) (n -ℤ a.residue) (a.residue -ℤ b.residue) (n -ℤ b.residue) (Divides_trans (mod_of b) (mod_of a) (n -ℤ a.residue) p.0 q.1) p.1 (omega (arith, ints)))
+    parts_has b n q.0 (Divides-sum (mod_of b) (n -ℤ a.residue) (a.residue -ℤ b.residue) (n -ℤ b.residue) (Divides_trans (mod_of b) (mod_of a) (n -ℤ a.residue) p.modulus q.1) p.residue (omega (arith, ints)))
 
 pub below_refl : (a : Congruence) → Below congruences a a
 below_refl a = parts_below a a (dvd_refl (mod_of a)) (Divides_is (mod_of a) (pos 0) (a.residue -ℤ a.residue) (Divides-zero (mod_of a)) (omega (arith, ints)))
@@ -248,23 +253,23 @@ pub below_trans : (a b c : Congruence) → Below congruences a b → Below congr
 below_trans a b c h k =
     let p = below_parts a b h in
     let q = below_parts b c k in
-    parts_below a c (dvd_trans (mod_of c) q.0 p.0) (Divides-sum (mod_of c) (a.residue -ℤ b.residue) (b.residue -ℤ c.residue) (a.residue -ℤ c.residue) (Divides_trans (mod_of c) (mod_of b) (a.residue -ℤ b.residue) q.0 p.1) q.1 (omega (arith, ints)))
+    parts_below a c (dvd_trans (mod_of c) q.modulus p.modulus) (Divides-sum (mod_of c) (a.residue -ℤ b.residue) (b.residue -ℤ c.residue) (a.residue -ℤ c.residue) (Divides_trans (mod_of c) (mod_of b) (a.residue -ℤ b.residue) q.modulus p.residue) q.residue (omega (arith, ints)))
 
 pub below_antisym : (a b : Congruence) → Below congruences a b → Below congruences b a → a ≡ b
 below_antisym a b h k =
     let p = below_parts a b h in
     let q = below_parts b a k in
-    let m : mod_of a ≡ mod_of b = dvd_antisymm q.0 p.0 in
+    let m : mod_of a ≡ mod_of b = dvd_antisymm q.modulus p.modulus in
     let na = a.form.not_negative in
     let nb = b.form.not_negative in
     same_parts a b (omega (arith, ints))
     (⊎_elim
-    (λ (e : nat_eq (mod_of b) 0 ≡ true). only_member (mod_of b) a.residue b.residue p.1 (eqb-true (mod_of b) 0 e))
+    (λ (e : nat_eq (mod_of b) 0 ≡ true). only_member (mod_of b) a.residue b.residue p.residue (eqb-true (mod_of b) 0 e))
     (λ (e : nat_eq (mod_of b) 0 ≡ false).
     let l = positive (mod_of b) e in
     let ra = a.form.reduced (omega (arith, ints)) in
     let rb = b.form.reduced (omega (arith, ints)) in
-    let g = small_multiple (mod_of b) (a.residue -ℤ b.residue) p.1 (omega (arith, ints)) in
+    let g = small_multiple (mod_of b) (a.residue -ℤ b.residue) p.residue (omega (arith, ints)) in
     omega (arith, ints))
     (cases_Bool (nat_eq (mod_of b) 0)))
 
@@ -278,17 +283,17 @@ height_falls a b h k =
     let fb = b.form.fits in
     let nb = b.form.not_negative in
     let apart : Below congruences b a → ⊥ = λ l. false≢true (sym k ∙ l.holds) in
-    let back : Divides (mod_of b) (b.residue -ℤ a.residue) = Divides-neg_is (mod_of b) (a.residue -ℤ b.residue) (b.residue -ℤ a.residue) p.1 (omega (arith, ints)) in
+    let back : Divides (mod_of b) (b.residue -ℤ a.residue) = Divides-neg_is (mod_of b) (a.residue -ℤ b.residue) (b.residue -ℤ a.residue) p.residue (omega (arith, ints)) in
     let same : mod_of a ≡ mod_of b → ⊥ = λ e. apart (parts_below b a (subst (λ (x : ℕ). x ∣ mod_of b) (sym e) (dvd_refl (mod_of b))) (subst (λ (x : ℕ). Divides x (b.residue -ℤ a.residue)) (sym e) back)) in
     ⊎_elim
     (λ (e : nat_eq (mod_of b) 0 ≡ true).
     let z = eqb-true (mod_of b) 0 e in
-    absurd (same (eq-zero_of_zero-dvd (subst (λ (x : ℕ). x ∣ mod_of a) z p.0) ∙ sym z)))
+    absurd (same (eq-zero_of_zero-dvd (subst (λ (x : ℕ). x ∣ mod_of a) z p.modulus) ∙ sym z)))
     (λ (e : nat_eq (mod_of b) 0 ≡ false).
     height_below (mod_of a) (mod_of b) (positive (mod_of b) e) (omega (arith, ints))
     (⊎_elim
     (λ (f : nat_eq (mod_of a) 0 ≡ true). inl (eqb-true (mod_of a) 0 f))
-    (λ (f : nat_eq (mod_of a) 0 ≡ false). let l = le_of_dvd (positive (mod_of a) f) p.0 in inr (omega (arith, same)))
+    (λ (f : nat_eq (mod_of a) 0 ≡ false). let l = le_of_dvd (positive (mod_of a) f) p.modulus in inr (omega (arith, same)))
     (cases_Bool (nat_eq (mod_of a) 0))))
     (cases_Bool (nat_eq (mod_of b) 0))
 
@@ -340,7 +345,7 @@ join_least a b c h k =
     let p = below_parts a c h in
     let q = below_parts b c k in
     let g = join_modulus a b in
-    let apart : Divides (mod_of c) (a.residue -ℤ b.residue) = Divides-difference (mod_of c) (a.residue -ℤ c.residue) (b.residue -ℤ c.residue) (a.residue -ℤ b.residue) p.1 q.1 (omega (arith, ints)) in
-    let d = gcd_greatest (gcd (mod_of a) (mod_of b)) (nat_abs (a.residue -ℤ b.residue)) (mod_of c) (gcd_greatest (mod_of a) (mod_of b) (mod_of c) p.0 q.0) apart.holds in
+    let apart : Divides (mod_of c) (a.residue -ℤ b.residue) = Divides-difference (mod_of c) (a.residue -ℤ c.residue) (b.residue -ℤ c.residue) (a.residue -ℤ b.residue) p.residue q.residue (omega (arith, ints)) in
+    let d = gcd_greatest (gcd (mod_of a) (mod_of b)) (nat_abs (a.residue -ℤ b.residue)) (mod_of c) (gcd_greatest (mod_of a) (mod_of b) (mod_of c) p.modulus q.modulus) apart.holds in
     parts_below (join a b) c d
-    (Divides-difference (mod_of c) (a.residue -ℤ c.residue) (a.residue -ℤ reduce g a.residue) (reduce g a.residue -ℤ c.residue) p.1 (Divides_trans (mod_of c) g (a.residue -ℤ reduce g a.residue) d (reduce_divides g a.residue)) (omega (arith, ints)))
+    (Divides-difference (mod_of c) (a.residue -ℤ c.residue) (a.residue -ℤ reduce g a.residue) (reduce g a.residue -ℤ c.residue) p.residue (Divides_trans (mod_of c) g (a.residue -ℤ reduce g a.residue) d (reduce_divides g a.residue)) (omega (arith, ints)))

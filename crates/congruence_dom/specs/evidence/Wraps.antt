@@ -46,11 +46,7 @@ pub Divides-halved : (m : ℕ) (x y : ℤ) → m % 2 ≡ 0 → Divides m (x -ℤ
 Divides-halved m x y e d =
     let two : 2 ∣ m = dvd_of_mod-eq-zero 2 e in
     let p = halved_twice x in
-    let p0 = p.0 in
-    let p1 = p.1 in
     let q = halved_twice y in
-    let q0 = q.0 in
-    let q1 = q.1 in
     let even : nat_abs (x -ℤ y) % 2 ≡ 0 = mod-eq-zero_of_dvd 2 (dvd_trans 2 two d.holds) in
     let same : halved x -ℤ halved y +ℤ (halved x -ℤ halved y) ≡ x -ℤ y = omega (arith, ints) in
     let m2 : m ≡ 2 * (m / 2) = omega arith in

@@ -11,14 +11,14 @@ pub make-requires-clause-z_low : goal.make-requires-clause-z_low
 make-requires-clause-z_low c =
     let a = c.args.self.now.form in
     let h = half c in
-    let t0 = (halved_twice c.args.self.now.residue).0 in
-    let t1 = (halved_twice c.args.self.now.residue).1 in
+    let t0 = (halved_twice c.args.self.now.residue).low in
+    let t1 = (halved_twice c.args.self.now.residue).high in
     omega (arith, ints)
 
 pub make-requires-clause-z_high : goal.make-requires-clause-z_high
 make-requires-clause-z_high c =
     let a = c.args.self.now.form in
     let h = half c in
-    let t0 = (halved_twice c.args.self.now.residue).0 in
-    let t1 = (halved_twice c.args.self.now.residue).1 in
+    let t0 = (halved_twice c.args.self.now.residue).low in
+    let t1 = (halved_twice c.args.self.now.residue).high in
     omega (arith, ints)
