@@ -92,7 +92,7 @@ sealed_single : (n : ℤ) (o : Option P) → IsSomeAnd o (λ p. Has base p n) �
     → iv.single (intervals.constant n) ≡ Some n → (k : IsNormal (unwrap_or o base.top)) → single (val (unwrap_or o base.top) k) ≡ Some n
 sealed_single n None s h e k = absurd s
 sealed_single n (Some q) s h e k =
-    interval_single.below q.left (intervals.constant n) n (le_both intervals congruences q (pair (intervals.constant n) (congruences.constant n)) h).0 e
+    interval_single.below q.left (intervals.constant n) n (le_both intervals congruences q (pair (intervals.constant n) (congruences.constant n)) h).left e
 
 constant_is_single : (n : ℤ) → IsSigned n → single (vals.constant n) ≡ Some n
 constant_is_single n w =
