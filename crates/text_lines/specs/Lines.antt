@@ -33,8 +33,8 @@ pub record NumberedLine : Type 0 where
 abbrev pub unless : Bool → NumberedLine → List NumberedLine → List NumberedLine
 unless left_out line others = if left_out then others else line ∷ others
 
--- lines with their numbers, of which the first has this one; where they are to be skipped, empty lines
--- and comments are counted and left out
+-- lines with their numbers, of which the first has this one; where they are to be skipped, empty
+-- lines and comments are counted and left out
 abbrev pub numbered : Bool → ℕ → List (List ℕ) → List NumberedLine
 numbered skips n [] = []
 numbered skips n (l ∷ ls) =
@@ -53,6 +53,8 @@ abbrev pub past_end : List ℕ → ℕ
 past_end text = 1 + length (lines_of text)
 
 -- The first of these lines that isn't left out has this number and text, and those are behind it.
-pub record IsNext (skips : Bool) (first : ℕ) (lines : List (List ℕ)) (number : ℕ) (line : List ℕ) (behind : List (List ℕ)) : Type 0 where
-  pub is : numbered skips first lines ≡ record { number = number; text = line } ∷ numbered skips (number + 1) behind
+pub record IsNext (skips : Bool) (first : ℕ) (lines : List (List ℕ)) (number : ℕ) (line : List ℕ)
+    (behind : List (List ℕ)) : Type 0 where
+  pub is : numbered skips first lines
+      ≡ record { number = number; text = line } ∷ numbered skips (number + 1) behind
   pub count : number + 1 + length behind ≡ first + length lines
