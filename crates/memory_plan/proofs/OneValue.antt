@@ -2,15 +2,14 @@
 use Rattle.std.proofs.Common.{◌≡◌, ◌∙◌, ℕ, ◌+◌, Bool, true, false, cond, List, [], ◌∷◌, ◌++◌, Some, Ok, Err, map, refl, sym, ap, subst, append_assoc, arith}
 use Rattle.std.proofs.lemmas.Bool.Decides.{nat_tests}
 use Rattle.text_lines.specs.Lines.{lines_of, numbered, every_line, kept_lines, past_end}
-use Rattle.text_lines.specs.Reading.{Say}
+use Rattle.text_lines.specs.Reading.{Say, HasOneReading}
 use Rattle.text_lines.proofs.Readings.{said_once, said_unbroken, broken_once, reading_once}
 use Rattle.memory_plan.specs.declared.text_fault.ImageRule.TheVariants.{Order}
 use Rattle.memory_plan.specs.declared.text_fault.PlanRule.{PlanRule}
 use Rattle.memory_plan.specs.declared.text_fault.PlanRule.TheVariants.{Start}
 use Rattle.memory_plan.specs.declared.plan_line.PlanLine.{PlanLine}
-use Rattle.memory_plan.specs.Images.{ImageWords, Ascend, is_above, word_of_line, in_order, image_grammar, IsImage}
-use Rattle.memory_plan.specs.PlanText.{plan_of, plan_grammar, has_start, IsPlan}
-use Rattle.memory_plan.specs.OneReading.{HasOneReading, image_fault, plan_fault}
+use Rattle.memory_plan.specs.Images.{ImageWords, Ascend, is_above, word_of_line, in_order, image_grammar, IsImage, image_fault}
+use Rattle.memory_plan.specs.PlanText.{plan_of, plan_grammar, has_start, IsPlan, plan_fault}
 
 -- ---- images
 

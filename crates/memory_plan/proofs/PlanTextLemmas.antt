@@ -2,11 +2,13 @@
 use Rattle.std.proofs.Common.{◌≡◌, ◌∙◌, ℕ, suc, ◌+◌, ◌-◌, ◌<◌, ◌≤◌, Bool, true, false, cond, List, [], ◌∷◌, length, Option, Some, None, Ok, refl, sym, ap, subst, arith}
 use Rattle.std.specs.Prelude.{codes, is_some, nat_lt, nat_le, not, ◌&&◌, ◌||◌}
 use Rattle.std.specs.List.{list_any}
+use Rattle.std.specs.Str.{bytes_eq}
+use Rattle.std.proofs.lemmas.Bool.{or_parts}
 use Rattle.viper_word.specs.Words.{signed_value}
 use Rattle.viper_word.specs.declared.word.Word.{Word}
 use Rattle.memory_plan.specs.Images.{ImageWords, entries, word_at, words_between}
 use Rattle.viper_word.specs.Ranges.{NumberRange}
-use Rattle.memory_plan.specs.Numbers.{same_text, range_has}
+use Rattle.memory_plan.specs.Numbers.{range_has}
 use Rattle.memory_plan.specs.declared.plan_line.WrittenLine.{WrittenLine}
 use Rattle.memory_plan.specs.declared.plan_line.PlanLine.{PlanLine}
 use Rattle.memory_plan.specs.PlanShapes.{profile_shape, code_shape, span_shape, marker_shape, start_shape, threshold_shape, cost_shape, shape_by, shape_of, value_of, line_of}
@@ -27,9 +29,9 @@ none_of false rest e = e
 pub no_tokens : (kind : List ℕ) → shape_by kind [] ≡ None
 unfolding profile_shape code_shape span_shape marker_shape start_shape threshold_shape cost_shape
 no_tokens kind =
-    none_of (same_text kind (codes "profile")) _ (none_of (same_text kind (codes "code")) _ (none_of (same_text kind (codes "data")) _
-    (none_of (same_text kind (codes "input")) _ (none_of (same_text kind (codes "output")) _ (none_of (same_text kind (codes "marker")) _
-    (none_of (same_text kind (codes "start")) _ (none_of (same_text kind (codes "threshold")) _ (none_of (same_text kind (codes "cost")) None refl))))))))
+    none_of (bytes_eq kind (codes "profile")) _ (none_of (bytes_eq kind (codes "code")) _ (none_of (bytes_eq kind (codes "data")) _
+    (none_of (bytes_eq kind (codes "input")) _ (none_of (bytes_eq kind (codes "output")) _ (none_of (bytes_eq kind (codes "marker")) _
+    (none_of (bytes_eq kind (codes "start")) _ (none_of (bytes_eq kind (codes "threshold")) _ (none_of (bytes_eq kind (codes "cost")) None refl))))))))
 
 -- ---- words of the image
 
@@ -102,16 +104,12 @@ unbroken : (b : Bool) (rule : PlanRule) (rest : Option PlanRule) → cond b (Som
 unbroken true rule rest e = cc
 unbroken false rule rest e = (refl, e)
 
-pub neither : (a b : Bool) → (a || b) ≡ false → (a ≡ false) × (b ≡ false)
-neither true b e = cc
-neither false b e = (refl, e)
-
 keeps_from : (s : SoFar) (l : PlanLine) → broken_rule s l ≡ None → Keeps s l
 unfolding broken_rule
 keeps_from s l e =
     let order = unbroken (nat_lt (kind_of l) s.latest) _ _ e in
     let limit = unbroken (too_many_lines s l || too_many_words s.plan l) _ _ order.1 in
-    let limits = neither (too_many_lines s l) (too_many_words s.plan l) limit.0 in
+    let limits = or_parts (too_many_lines s l) (too_many_words s.plan l) limit.0 in
     let span = unbroken (breaks_span s.plan l) _ _ limit.1 in
     let image = unbroken (breaks_image s.plan l) _ _ span.1 in
     let code = unbroken (breaks_code s.plan l) _ _ image.1 in

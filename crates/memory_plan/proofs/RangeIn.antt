@@ -1,5 +1,5 @@
 -- The test of a range's numbers is the range.
-use Rattle.std.proofs.Common.{◌≡◌, ◌∙◌, ℕ, ◌+◌, ◌*◌, ◌<◌, Bool, true, false, pos, negsuc, ◌+ℤ◌, ◌-ℤ◌, ◌*ℤ◌, ◌≤ℤ◌, eqb, suc, refl, sym, ap, ◌⊎◌, inl, inr, arith, rules, tests}
+use Rattle.std.proofs.Common.{◌≡◌, ◌∙◌, ℕ, ◌+◌, ◌*◌, ◌<◌, Bool, true, false, pos, negsuc, ◌+ℤ◌, ◌-ℤ◌, ◌*ℤ◌, ◌≤ℤ◌, eqb, suc, refl, sym, ap, ◌⊎◌, inl, inr, arith}
 use Rattle.std.specs.Prelude.{ℤ, unsigned_abs, ◌&&◌, ◌||◌, int_le}
 use Rattle.std.specs.Int.{int_rem_euclid}
 use Rattle.std.proofs.lemmas.Int.{int_rem_euclid_is}
@@ -7,31 +7,17 @@ use Rattle.std.proofs.lemmas.Bool.Decides.{Decides-int_eq}
 use Rattle.std.proofs.Math.Nat.{mul-mod_left}
 use Rattle.std.specs.Ordering.{int_eq}
 use Rattle.std.proofs.lemmas.Int.{ints}
+use Rattle.std.proofs.lemmas.Bool.{or_cases, and_parts}
 use Rattle.viper_word.specs.Ranges.{NumberRange, OnStep, IsIn, IsSingle, IsSeveral, IsNormal}
 use Rattle.memory_plan.specs.Numbers.{leads, range_has}
-use Rattle.viper_word.proofs.Integers.{le_true, true_le}
+use Rattle.viper_word.proofs.Integers.{le_true, true_le, eq_true}
 use Rattle.viper_word.proofs.Products.{plus_times}
-use Rattle.memory_plan.proofs.RangeLemmas.{both_sides, quotient, is_pos, zero_size, both_steps}
-
-either : (a b : Bool) → (a || b) ≡ true → (a ≡ true) ⊎ (b ≡ true)
-either true b e = inl refl
-either false b e = inr e
-
-eq_fact : (a b : ℤ) → int_eq a b ≡ true → a ≡ b
-eq_fact a b h = search (rules, tests)
-
--- the lower end is in the range
-low_step : (r : NumberRange) → IsSingle r ⊎ IsSeveral r → OnStep r.modulus r.residue r.lo
-low_step r (inl one) = record { steps = pos 0; holds = sym one.residue ∙ zero_times r.residue r.modulus }
-  where
-    zero_times : (z m : ℤ) → z ≡ z +ℤ (pos 0 *ℤ m)
-    zero_times z (pos m) = omega (arith, ints)
-    zero_times z (negsuc m) = omega (arith, ints)
-low_step r (inr many) = many.from
+use Rattle.memory_plan.proofs.RangeLemmas.{quotient, is_pos, zero_size, both_steps}
+use Rattle.viper_word.proofs.RangeLemmas.{low_step}
 
 -- a number that steps from the lower end lead to is in the range
 step_there : (r : NumberRange) (n : ℤ) → IsSingle r ⊎ IsSeveral r → r.lo ≤ℤ n → n ≤ℤ r.hi → (int_eq n r.lo ≡ true) ⊎ (leads r.lo n r.modulus ≡ true) → OnStep r.modulus r.residue n
-step_there r n form low high (inl e) = let there = low_step r form in record { steps = there.steps; holds = eq_fact n r.lo e ∙ there.holds }
+step_there r n form low high (inl e) = let there = low_step r form in record { steps = there.steps; holds = eq_true n r.lo e ∙ there.holds }
 step_there r n (inl one) low high (inr e) =
     let there = low_step r (inl one) in
     let same : n ≡ r.lo = omega (arith, ints, one.ends, low, high) in
@@ -46,11 +32,11 @@ step_there r n (inr many) low high (inr e) =
 
 pub test_is_in : (r : NumberRange) (n : ℤ) → IsNormal r → range_has r n ≡ true → IsIn r n
 test_is_in r n normal h =
-    let all = both_sides (int_le r.lo n && int_le n r.hi) (int_eq n r.lo || leads r.lo n r.modulus) h in
-    let ends = both_sides (int_le r.lo n) (int_le n r.hi) all.0 in
+    let all = and_parts (int_le r.lo n && int_le n r.hi) (int_eq n r.lo || leads r.lo n r.modulus) h in
+    let ends = and_parts (int_le r.lo n) (int_le n r.hi) all.0 in
     let low = le_true r.lo n ends.0 in
     let high = le_true n r.hi ends.1 in
-    record { low = low; high = high; step = step_there r n normal.form low high (either (int_eq n r.lo) (leads r.lo n r.modulus) all.1) }
+    record { low = low; high = high; step = step_there r n normal.form low high (or_cases (int_eq n r.lo) (leads r.lo n r.modulus) all.1) }
 
 -- ---- and the other way round
 

@@ -1,27 +1,21 @@
 -- Ranges in their normal form.
-use Rattle.std.proofs.Common.{◌≡◌, ℕ, ◌/◌, ◌<◌, Bool, true, false, pos, negsuc, ◌+ℤ◌, ◌-ℤ◌, ◌*ℤ◌, ◌≤ℤ◌, ◌<ℤ◌, refl, arith, rules, tests, eqb, inl, inr}
+use Rattle.std.proofs.Common.{◌≡◌, ℕ, ◌/◌, ◌<◌, true, pos, negsuc, ◌+ℤ◌, ◌-ℤ◌, ◌*ℤ◌, ◌≤ℤ◌, ◌<ℤ◌, refl, arith, eqb, inl, inr}
 use Rattle.std.specs.Prelude.{ℤ, unsigned_abs, ◌&&◌, int_le, int_lt}
 use Rattle.std.specs.Int.{int_rem_euclid}
 use Rattle.std.proofs.lemmas.Int.{ints}
 use Rattle.std.proofs.lemmas.Nat.{mod_below}
 use Rattle.std.proofs.lemmas.Bool.Decides.{nat_tests}
 use Rattle.std.proofs.Math.Nat.{div-add-mod}
-use Rattle.viper_word.proofs.Integers.{le_true, is_signed_true}
+use Rattle.std.proofs.lemmas.Bool.{and_parts}
+use Rattle.viper_word.proofs.Integers.{le_true, is_signed_true, less_true}
 use Rattle.viper_word.proofs.Products.{plus_times}
 use Rattle.viper_word.proofs.Multiples.{rem_bounds}
 use Rattle.viper_word.specs.Words.{IsSigned, is_signed}
 use Rattle.viper_word.specs.Ranges.{IsNormal, any_word}
-use Rattle.memory_plan.specs.Numbers.{is_rising, is_step, leads, single, several}
+use Rattle.memory_plan.specs.Numbers.{is_rising, is_step, leads, one_number, several}
 
 pub same_rem : (z y m n : ℤ) → z ≡ y → m ≡ n → int_rem_euclid z m ≡ int_rem_euclid y n
 same_rem z y m n e f = rw (e, f) refl
-
-pub both_sides : (a b : Bool) → (a && b) ≡ true → (a ≡ true) × (b ≡ true)
-both_sides true b h = (refl, h)
-both_sides false b h = cc
-
-lt_fact : (a b : ℤ) → int_lt a b ≡ true → a <ℤ b
-lt_fact a b h = search (rules, tests)
 
 -- two signed words, the lower one first
 pub record Rises (lo hi : ℤ) : Type 0 where
@@ -31,16 +25,16 @@ pub record Rises (lo hi : ℤ) : Type 0 where
 
 pub rising_facts : (lo hi : ℤ) → is_rising lo hi ≡ true → Rises lo hi
 rising_facts lo hi h =
-    let b = both_sides (is_signed lo && is_signed hi) (int_lt lo hi) h in
-    let c = both_sides (is_signed lo) (is_signed hi) b.0 in
-    record { low = is_signed_true lo c.0; high = is_signed_true hi c.1; ends = lt_fact lo hi b.1 }
+    let b = and_parts (is_signed lo && is_signed hi) (int_lt lo hi) h in
+    let c = and_parts (is_signed lo) (is_signed hi) b.0 in
+    record { low = is_signed_true lo c.0; high = is_signed_true hi c.1; ends = less_true lo hi b.1 }
 
 pub record IsStep (m : ℤ) : Type 0 where
   pub least : pos 1 ≤ℤ m
   pub most : m ≤ℤ pos 4294967295
 
 pub step_facts : (m : ℤ) → is_step m ≡ true → IsStep m
-step_facts m h = let b = both_sides (int_le (pos 1) m) (int_le m (pos 4294967295)) h in record { least = le_true (pos 1) m b.0; most = le_true m (pos 4294967295) b.1 }
+step_facts m h = let b = and_parts (int_le (pos 1) m) (int_le m (pos 4294967295)) h in record { least = le_true (pos 1) m b.0; most = le_true m (pos 4294967295) b.1 }
 
 -- a number is its remainder and so many times the divisor
 pub quotient : (z : ℤ) (m : ℕ) → 0 < m → (k : ℤ) × (z ≡ int_rem_euclid z (pos m) +ℤ (k *ℤ pos m))
@@ -85,7 +79,7 @@ steps_normal lo hi m up step even =
 pub normal_at : (lo hi m lo' hi' m' r : ℤ) → lo' ≡ lo → hi' ≡ hi → m' ≡ m → r ≡ int_rem_euclid lo m → IsNormal (several lo hi m) → IsNormal (record { lo = lo'; hi = hi'; modulus = m'; residue = r })
 normal_at lo hi m lo' hi' m' r e f g h n = rw (e, f, g, h) n
 
-pub single_normal : (n : ℤ) → IsSigned n → IsNormal (single n)
+pub single_normal : (n : ℤ) → IsSigned n → IsNormal (one_number n)
 single_normal n h = record { lo = h; hi = h; form = inl (record { ends = refl; modulus = refl; residue = refl }) }
 
 pub any_normal : IsNormal any_word

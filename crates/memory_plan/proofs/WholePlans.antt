@@ -1,15 +1,14 @@
 -- Plans that are read are well-formed.
 use Rattle.std.proofs.Common.{◌≡◌, ◌≢◌, ◌∙◌, ℕ, ◌+◌, ◌-◌, ◌^◌, ◌<◌, ◌≤◌, Bool, true, false, eqb, leb, ltb, append_assoc, append-nil, List, [], ◌∷◌, ◌++◌, length, get_or, refl, sym, ap, subst, inl, inr, arith}
-use Rattle.std.specs.Prelude.{◌&&◌, ◌||◌, nat_le, nat_lt, ℤ}
+use Rattle.std.specs.Prelude.{◌&&◌, ◌||◌, nat_le, nat_lt}
 use Rattle.std.specs.List.{All, list_any}
-use Rattle.std.proofs.lemmas.Bool.{cases_lt, ltb-false}
+use Rattle.std.proofs.lemmas.Bool.{cases_lt, ltb-false, or_parts, or_left, not-false}
 use Rattle.std.proofs.lemmas.Bool.Decides.{nat_tests}
 use Rattle.std.proofs.lemmas.List.{length_push}
 use Rattle.std.proofs.lemmas.List.Sums.{sum_by_push}
 use Rattle.std.proofs.lemmas.List.Elements.{All-push}
 use Rattle.std.proofs.lemmas.List.Quantifiers.{all_pairs_push}
-use Rattle.std.proofs.lemmas.List.Folds.{list_any_at, list_any-append}
-use Rattle.viper_word.proofs.Booleans.{test_true}
+use Rattle.std.proofs.lemmas.List.Folds.{list_any-append}
 use Rattle.viper_word.specs.Words.{IsSigned}
 use Rattle.text_lines.specs.Lines.{NumberedLine, kept_lines}
 use Rattle.text_lines.specs.Reading.{Say, made}
@@ -21,27 +20,17 @@ use Rattle.memory_plan.specs.Costs.{place_of}
 use Rattle.memory_plan.specs.Plans.{PlanLines, has_code, has_marker, words_of}
 use Rattle.memory_plan.specs.PlanRules.{SoFar, nothing_yet, add_line, empty_plan, add, all_words, misfits, meets, meets_code}
 use Rattle.memory_plan.specs.PlanText.{plan_grammar, IsPlan}
-use Rattle.memory_plan.specs.WellFormed.{Apart, AreCodeSpans, AreSpans, AreMarkers, AreStarts, HasNormalRanges, IsWellFormed}
+use Rattle.memory_plan.specs.WellFormed.{Apart, AreCodeSpans, AreSpans, AreMarkers, AreStarts, AreThresholds, AreCosts, HasNormalRanges, IsWellFormed}
 use Rattle.memory_plan.specs.declared.start.Start.{Start}
 use Rattle.memory_plan.specs.declared.cost.Costed.{Costed}
 use Rattle.memory_plan.specs.declared.plan_line.PlanLine.{PlanLine}
 use Rattle.memory_plan.specs.declared.plan_line.PlanLine.TheVariants as lines
 use Rattle.memory_plan.specs.declared.plan_line.Space.TheVariants.{Data, Input, Output}
 use Rattle.memory_plan.proofs.PlanFits.{LineFits}
-use Rattle.memory_plan.proofs.PlanTextLemmas.{Keeps, kept, neither}
+use Rattle.memory_plan.proofs.PlanTextLemmas.{Keeps, kept}
+use Rattle.memory_plan.proofs.SortedLemmas.{none_passes}
 
 -- ---- tests
-
-stays : (a b : Bool) → a ≡ true → (a || b) ≡ true
-stays true b e = refl
-stays false b e = cc
-
-none_passes : {A : Type 0} (p : A → Bool) (xs : List A) → list_any p xs ≡ false → All (λ x. p x ≡ false) xs
-none_passes {A} p xs e = λ k d within. fails (p (get_or xs k d)) k d within refl
-  where
-    fails : (b : Bool) (k : ℕ) (d : A) → k < length xs → p (get_or xs k d) ≡ b → b ≡ false
-    fails true k d within f = let found = list_any_at p xs k d within f in cc
-    fails false k d within f = refl
 
 apart_by : (lo hi low high : ℕ) → (leb lo high && leb low hi) ≡ false → Apart low high lo hi
 apart_by lo hi low high e = elim (cases_lt high lo) [
@@ -70,7 +59,7 @@ room xs x most e =
 
 -- what stays true when a span or a marker is added
 still_any : {A : Type 0} (p : A → Bool) (xs : List A) (x : A) → list_any p xs ≡ true → list_any p (xs ++ x ∷ []) ≡ true
-still_any p xs x e = list_any-append p xs (x ∷ []) ∙ stays (list_any p xs) (list_any p (x ∷ [])) e
+still_any p xs x e = list_any-append p xs (x ∷ []) ∙ or_left (list_any p xs) (list_any p (x ∷ [])) e
 
 words_push : (code : List (ℕ × ℕ)) (lo hi : ℕ) → words_of (code ++ (lo, hi) ∷ []) ≡ words_of code + (hi + 1 - lo)
 words_push code lo hi = sum_by_push (λ (s : ℕ × ℕ). s.1 + 1 - s.0) code (lo, hi)
@@ -128,11 +117,11 @@ starts_marker code markers at starts h = record {
 add_code : (s : SoFar) (lo hi : ℕ) → IsWellFormed s.plan → Keeps s (lines.Code lo hi) → hi < 2 ^ 20 → IsWellFormed (add s.plan (lines.Code lo hi))
 add_code s lo hi h k low =
     let plan = s.plan in
-    let span = neither (ltb hi lo) (meets_code plan.code lo hi || meets plan.«data» lo hi) k.span in
-    let apart = neither (meets_code plan.code lo hi) (meets plan.«data» lo hi) span.1 in
+    let span = or_parts (ltb hi lo) (meets_code plan.code lo hi || meets plan.«data» lo hi) k.span in
+    let apart = or_parts (meets_code plan.code lo hi) (meets plan.«data» lo hi) span.1 in
     record {
       image = h.image;
-      code = code_push plan.image plan.code lo hi h.code k.lines k.words span.0 low apart.0 (test_true (all_words plan.image lo (hi + 1 - lo)) k.image);
+      code = code_push plan.image plan.code lo hi h.code k.lines k.words span.0 low apart.0 (not-false (all_words plan.image lo (hi + 1 - lo)) k.image);
       «data» = h.«data»;
       code_and_data = All-push (λ (c : ℕ × ℕ). All (λ (t : Span). Apart c.0 c.1 t.0 t.1) plan.«data») plan.code (lo, hi) h.code_and_data
           (λ i d within. other_way (get_or plan.«data» i d).0 (get_or plan.«data» i d).1 lo hi
@@ -149,8 +138,8 @@ add_code s lo hi h k low =
 add_data : (s : SoFar) (t : Span) → IsWellFormed s.plan → Keeps s (lines.Region Data t.0 t.1 t.2) → t.1 < 2 ^ 20 → IsNormal t.2 → IsWellFormed (add s.plan (lines.Region Data t.0 t.1 t.2))
 add_data s t h k low normal =
     let plan = s.plan in
-    let span = neither (ltb t.1 t.0) (meets_code plan.code t.0 t.1 || meets plan.«data» t.0 t.1) k.span in
-    let apart = neither (meets_code plan.code t.0 t.1) (meets plan.«data» t.0 t.1) span.1 in
+    let span = or_parts (ltb t.1 t.0) (meets_code plan.code t.0 t.1 || meets plan.«data» t.0 t.1) k.span in
+    let apart = or_parts (meets_code plan.code t.0 t.1) (meets plan.«data» t.0 t.1) span.1 in
     record {
       image = h.image;
       code = h.code;
@@ -166,88 +155,51 @@ add_data s t h k low normal =
       costs = h.costs;
     }
 
--- peripheral spans in the place of others
-with_spans : (plan : PlanLines) (inputs outputs : List Span) → IsWellFormed plan → AreSpans inputs → AreSpans outputs
-    → IsWellFormed (record plan { inputs = inputs; outputs = outputs })
-with_spans plan inputs outputs h ins outs = record {
-  image = h.image;
-  code = h.code;
-  «data» = h.«data»;
-  code_and_data = h.code_and_data;
-  fits = h.fits;
+-- other parts in the place of those that code, data and the image leave free
+with_parts : (plan after : PlanLines) → IsWellFormed plan → after.image ≡ plan.image → after.code ≡ plan.code → after.«data» ≡ plan.«data» → AreSpans after.inputs → AreSpans after.outputs
+    → AreMarkers plan.code after.markers → AreStarts plan.code after.markers after.starts → AreThresholds after.thresholds → AreCosts after.costs → IsWellFormed after
+with_parts plan after h image code «data» ins outs markers starts thresholds costs = record {
+  image = rw image h.image;
+  code = rw (image, code) h.code;
+  «data» = rw «data» h.«data»;
+  code_and_data = rw (code, «data») h.code_and_data;
+  fits = rw (image, «data») h.fits;
   inputs = ins;
   outputs = outs;
-  markers = h.markers;
-  starts = h.starts;
-  thresholds = h.thresholds;
-  costs = h.costs;
+  markers = rw code markers;
+  starts = rw code starts;
+  thresholds = thresholds;
+  costs = costs;
 }
 
 -- and one span more among them
 span_more : (spans : List Span) (t : Span) → AreSpans spans → nat_le 256 (length spans) ≡ false → (ltb t.1 t.0 || meets spans t.0 t.1) ≡ false → t.1 < 2 ^ 20 → IsNormal t.2 → AreSpans (spans ++ t ∷ [])
 span_more spans t h lines breaks low normal =
-    let span = neither (ltb t.1 t.0) (meets spans t.0 t.1) breaks in
+    let span = or_parts (ltb t.1 t.0) (meets spans t.0 t.1) breaks in
     spans_push spans t h lines span.0 low normal span.1
 
 add_marker : (s : SoFar) (at : ℕ) → IsWellFormed s.plan → Keeps s (lines.Marker at) → IsWellFormed (add s.plan (lines.Marker at))
 add_marker s at h k =
     let plan = s.plan in
-    record {
-      image = h.image;
-      code = h.code;
-      «data» = h.«data»;
-      code_and_data = h.code_and_data;
-      fits = h.fits;
-      inputs = h.inputs;
-      outputs = h.outputs;
-      markers = record {
-        few = room plan.markers at 1024 k.lines;
-        differ = all_pairs_push (λ (m n : ℕ). m ≢ n) plan.markers at h.markers.differ
-            (λ i d within. differs (get_or plan.markers i d) at (none_passes (λ (m : ℕ). eqb m at) plan.markers k.marker i d within));
-        in_code = All-push (λ (m : ℕ). has_code plan.code m ≡ true) plan.markers at h.markers.in_code (test_true (has_code plan.code at) k.code);
-      };
-      starts = starts_marker plan.code plan.markers at plan.starts h.starts;
-      thresholds = h.thresholds;
-      costs = h.costs;
-    }
+    let markers : AreMarkers plan.code (plan.markers ++ at ∷ []) = record {
+      few = room plan.markers at 1024 k.lines;
+      differ = all_pairs_push (λ (m n : ℕ). m ≢ n) plan.markers at h.markers.differ
+          (λ i d within. differs (get_or plan.markers i d) at (none_passes (λ (m : ℕ). eqb m at) plan.markers k.marker i d within));
+      in_code = All-push (λ (m : ℕ). has_code plan.code m ≡ true) plan.markers at h.markers.in_code (not-false (has_code plan.code at) k.code);
+    } in
+    with_parts plan (add plan (lines.Marker at)) h refl refl refl h.inputs h.outputs markers (starts_marker plan.code plan.markers at plan.starts h.starts) h.thresholds h.costs
 
 add_start : (s : SoFar) (start : Start) → IsWellFormed s.plan → Keeps s (lines.Start start) → start.at < 2 ^ 20 → HasNormalRanges start → IsWellFormed (add s.plan (lines.Start start))
 add_start s start h k low normal =
     let plan = s.plan in
-    record {
-      image = h.image;
-      code = h.code;
-      «data» = h.«data»;
-      code_and_data = h.code_and_data;
-      fits = h.fits;
-      inputs = h.inputs;
-      outputs = h.outputs;
-      markers = h.markers;
-      starts = record {
-        few = room plan.starts start 16 k.lines;
-        placed = All-push (λ (t : Start). t.at < 2 ^ 20) plan.starts start h.starts.placed low;
-        in_code = All-push (λ (t : Start). has_code plan.code t.at ≡ true) plan.starts start h.starts.in_code (test_true (has_code plan.code start.at) k.code);
-        at_markers = All-push (λ (t : Start). has_marker plan.markers t.at ≡ true) plan.starts start h.starts.at_markers (test_true (has_marker plan.markers start.at) k.marker);
-        normal = All-push HasNormalRanges plan.starts start h.starts.normal normal;
-      };
-      thresholds = h.thresholds;
-      costs = h.costs;
-    }
-
-add_threshold : (s : SoFar) (n : ℤ) → IsWellFormed s.plan → Keeps s (lines.Threshold n) → IsSigned n → IsWellFormed (add s.plan (lines.Threshold n))
-add_threshold s n h k signed = record {
-  image = h.image;
-  code = h.code;
-  «data» = h.«data»;
-  code_and_data = h.code_and_data;
-  fits = h.fits;
-  inputs = h.inputs;
-  outputs = h.outputs;
-  markers = h.markers;
-  starts = h.starts;
-  thresholds = record { few = room s.plan.thresholds n 1024 k.lines; signed = All-push IsSigned s.plan.thresholds n h.thresholds.signed signed };
-  costs = h.costs;
-}
+    let starts : AreStarts plan.code plan.markers (plan.starts ++ start ∷ []) = record {
+      few = room plan.starts start 16 k.lines;
+      placed = All-push (λ (t : Start). t.at < 2 ^ 20) plan.starts start h.starts.placed low;
+      in_code = All-push (λ (t : Start). has_code plan.code t.at ≡ true) plan.starts start h.starts.in_code (not-false (has_code plan.code start.at) k.code);
+      at_markers = All-push (λ (t : Start). has_marker plan.markers t.at ≡ true) plan.starts start h.starts.at_markers (not-false (has_marker plan.markers start.at) k.marker);
+      normal = All-push HasNormalRanges plan.starts start h.starts.normal normal;
+    } in
+    with_parts plan (add plan (lines.Start start)) h refl refl refl h.inputs h.outputs h.markers starts h.thresholds h.costs
 
 other_kind : (a b : Costed) → eqb (place_of a) (place_of b) ≡ false → a ≢ b
 other_kind a b e = λ same. differs (place_of a) (place_of b) e (ap place_of same)
@@ -255,51 +207,27 @@ other_kind a b e = λ same. differs (place_of a) (place_of b) e (ap place_of sam
 add_cost : (s : SoFar) (kind : Costed) (n : ℕ) → IsWellFormed s.plan → Keeps s (lines.Cost kind n) → 1 ≤ n → n ≤ 1000 → IsWellFormed (add s.plan (lines.Cost kind n))
 add_cost s kind n h k some small =
     let costs = s.plan.costs in
-    record {
-      image = h.image;
-      code = h.code;
-      «data» = h.«data»;
-      code_and_data = h.code_and_data;
-      fits = h.fits;
-      inputs = h.inputs;
-      outputs = h.outputs;
-      markers = h.markers;
-      starts = h.starts;
-      thresholds = h.thresholds;
-      costs = record {
-        differ = all_pairs_push (λ (c d : Costed × ℕ). c.0 ≢ d.0) costs (kind, n) h.costs.differ
-            (λ i d within. other_kind (get_or costs i d).0 kind (none_passes (λ (c : Costed × ℕ). eqb (place_of c.0) (place_of kind)) costs k.lines i d within));
-        some = All-push (λ (c : Costed × ℕ). 1 ≤ c.1) costs (kind, n) h.costs.some some;
-        small = All-push (λ (c : Costed × ℕ). c.1 ≤ 1000) costs (kind, n) h.costs.small small;
-      };
-    }
-
-add_profile : (plan after : PlanLines) → after ≡ record plan { profile = after.profile } → IsWellFormed plan → IsWellFormed after
-add_profile plan after e h = subst IsWellFormed (sym e) (record {
-  image = h.image;
-  code = h.code;
-  «data» = h.«data»;
-  code_and_data = h.code_and_data;
-  fits = h.fits;
-  inputs = h.inputs;
-  outputs = h.outputs;
-  markers = h.markers;
-  starts = h.starts;
-  thresholds = h.thresholds;
-  costs = h.costs;
-})
+    let more : AreCosts (costs ++ (kind, n) ∷ []) = record {
+      differ = all_pairs_push (λ (c d : Costed × ℕ). c.0 ≢ d.0) costs (kind, n) h.costs.differ
+          (λ i d within. other_kind (get_or costs i d).0 kind (none_passes (λ (c : Costed × ℕ). eqb (place_of c.0) (place_of kind)) costs k.lines i d within));
+      some = All-push (λ (c : Costed × ℕ). 1 ≤ c.1) costs (kind, n) h.costs.some some;
+      small = All-push (λ (c : Costed × ℕ). c.1 ≤ 1000) costs (kind, n) h.costs.small small;
+    } in
+    with_parts s.plan (add s.plan (lines.Cost kind n)) h refl refl refl h.inputs h.outputs h.markers h.starts h.thresholds more
 
 pub add_one : (s : SoFar) (l : PlanLine) → IsWellFormed s.plan → Keeps s l → LineFits l → IsWellFormed (add s.plan l)
-add_one s (lines.Profile p) h k f = add_profile s.plan (add s.plan (lines.Profile p)) refl h
+add_one s (lines.Profile p) h k f = with_parts s.plan (add s.plan (lines.Profile p)) h refl refl refl h.inputs h.outputs h.markers h.starts h.thresholds h.costs
 add_one s (lines.Code lo hi) h k f = add_code s lo hi h k f
 add_one s (lines.Region Data lo hi r) h k f = add_data s (lo, hi, r) h k f.0 f.1
 add_one s (lines.Region Input lo hi r) h k f =
-    with_spans s.plan (s.plan.inputs ++ (lo, hi, r) ∷ []) s.plan.outputs h (span_more s.plan.inputs (lo, hi, r) h.inputs k.lines k.span f.0 f.1) h.outputs
+    with_parts s.plan (add s.plan (lines.Region Input lo hi r)) h refl refl refl (span_more s.plan.inputs (lo, hi, r) h.inputs k.lines k.span f.0 f.1) h.outputs h.markers h.starts h.thresholds h.costs
 add_one s (lines.Region Output lo hi r) h k f =
-    with_spans s.plan s.plan.inputs (s.plan.outputs ++ (lo, hi, r) ∷ []) h h.inputs (span_more s.plan.outputs (lo, hi, r) h.outputs k.lines k.span f.0 f.1)
+    with_parts s.plan (add s.plan (lines.Region Output lo hi r)) h refl refl refl h.inputs (span_more s.plan.outputs (lo, hi, r) h.outputs k.lines k.span f.0 f.1) h.markers h.starts h.thresholds h.costs
 add_one s (lines.Marker at) h k f = add_marker s at h k
 add_one s (lines.Start start) h k f = add_start s start h k f.0 f.1
-add_one s (lines.Threshold n) h k f = add_threshold s n h k f
+add_one s (lines.Threshold n) h k f =
+    let more : AreThresholds (s.plan.thresholds ++ n ∷ []) = record { few = room s.plan.thresholds n 1024 k.lines; signed = All-push IsSigned s.plan.thresholds n h.thresholds.signed f } in
+    with_parts s.plan (add s.plan (lines.Threshold n)) h refl refl refl h.inputs h.outputs h.markers h.starts more h.costs
 add_one s (lines.Cost kind n) h k f = add_cost s kind n h k f.0 f.1
 
 -- ---- all lines

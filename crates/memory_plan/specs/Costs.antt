@@ -1,8 +1,8 @@
 -- What instructions cost.
 use Rattle.std.specs.Prelude.{ℕ, ◌==◌, List, [], ◌∷◌, Option, Some, None, if◌then◌else◌, codes, slice_get}
+use Rattle.std.specs.Str.{bytes_eq}
 use Rattle.viper_word.specs.Fields.{Fields, fields_of}
 use Rattle.viper_decode.specs.declared.codes.destination.TheConstants.{PERIPHERAL, MEMORY}
-use Rattle.memory_plan.specs.Numbers.{same_text}
 use Rattle.memory_plan.specs.declared.cost.TheConstants.{FUNCTIONS, PLAIN_COST}
 use Rattle.memory_plan.specs.declared.cost.Costed.{Costed}
 use Rattle.memory_plan.specs.declared.cost.Costed.TheVariants.{Neg, Call, Inp, Read, Addb, Adds, Subb, Subs, Xor, And, Nor, Andn, Shift, Compare, Out, Sto}
@@ -29,22 +29,22 @@ place_of Sto = 15
 -- the kind of a name
 unfoldable pub cost_name : List ℕ → Option Costed
 cost_name text =
-    if same_text text (codes "NEG") then Some Neg
-    else if same_text text (codes "CALL") then Some Call
-    else if same_text text (codes "INP") then Some Inp
-    else if same_text text (codes "READ") then Some Read
-    else if same_text text (codes "ADDB") then Some Addb
-    else if same_text text (codes "ADDS") then Some Adds
-    else if same_text text (codes "SUBB") then Some Subb
-    else if same_text text (codes "SUBS") then Some Subs
-    else if same_text text (codes "XOR") then Some Xor
-    else if same_text text (codes "AND") then Some And
-    else if same_text text (codes "NOR") then Some Nor
-    else if same_text text (codes "ANDN") then Some Andn
-    else if same_text text (codes "SHIFT") then Some Shift
-    else if same_text text (codes "COMPARE") then Some Compare
-    else if same_text text (codes "OUT") then Some Out
-    else if same_text text (codes "STO") then Some Sto
+    if bytes_eq text (codes "NEG") then Some Neg
+    else if bytes_eq text (codes "CALL") then Some Call
+    else if bytes_eq text (codes "INP") then Some Inp
+    else if bytes_eq text (codes "READ") then Some Read
+    else if bytes_eq text (codes "ADDB") then Some Addb
+    else if bytes_eq text (codes "ADDS") then Some Adds
+    else if bytes_eq text (codes "SUBB") then Some Subb
+    else if bytes_eq text (codes "SUBS") then Some Subs
+    else if bytes_eq text (codes "XOR") then Some Xor
+    else if bytes_eq text (codes "AND") then Some And
+    else if bytes_eq text (codes "NOR") then Some Nor
+    else if bytes_eq text (codes "ANDN") then Some Andn
+    else if bytes_eq text (codes "SHIFT") then Some Shift
+    else if bytes_eq text (codes "COMPARE") then Some Compare
+    else if bytes_eq text (codes "OUT") then Some Out
+    else if bytes_eq text (codes "STO") then Some Sto
     else None
 
 -- The kind of an instruction: a comparison, an output or a store, and else its function. None where

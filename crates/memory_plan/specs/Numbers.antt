@@ -1,7 +1,8 @@
 -- Numbers and ranges as a plan writes them.
-use Rattle.std.specs.Prelude.{ℕ, ◌+◌, ◌-◌, ◌*◌, nat_le, ◌==◌, ◌&&◌, ◌||◌, ℤ, pos, neg_ℤ, ◌-ℤ◌, int_le, int_lt, unsigned_abs, List, [], ◌∷◌, length, Bool, true, false, Option, Some, None, if◌then◌else◌, codes}
+use Rattle.std.specs.Prelude.{ℕ, ◌+◌, ◌-◌, ◌*◌, nat_le, ◌==◌, ◌&&◌, ◌||◌, ℤ, pos, neg_ℤ, ◌-ℤ◌, int_le, int_lt, unsigned_abs, List, [], ◌∷◌, length, Bool, Option, Some, None, if◌then◌else◌, codes}
 use Rattle.std.specs.Int.{int_rem_euclid}
 use Rattle.std.specs.Ordering.{int_eq}
+use Rattle.std.specs.Str.{bytes_eq}
 use Rattle.viper_word.specs.Words.{is_signed}
 use Rattle.text_lines.specs.Parts.{parts_of, two, three, ◌>>=◌}
 use Rattle.viper_word.specs.Ranges.{NumberRange, any_word}
@@ -24,7 +25,8 @@ decimal_behind n (c ∷ cs) = decimal_digit c >>= λ d. decimal_behind (n * 10 +
 -- one to ten digits
 unfoldable pub natural : List ℕ → Option ℕ
 natural text =
-    if nat_le 1 (length text) && nat_le (length text) MOST_DIGITS then decimal_behind 0 text else None
+    if nat_le 1 (length text) && nat_le (length text) MOST_DIGITS
+    then decimal_behind 0 text else None
 
 -- and an optional `-` before them
 unfoldable pub number : List ℕ → Option ℤ
@@ -35,13 +37,6 @@ number (c ∷ cs) =
 
 -- ---- ranges in their three written forms, and `any`
 
--- do the texts agree?
-abbrev pub same_text : List ℕ → List ℕ → Bool
-same_text [] [] = true
-same_text [] (d ∷ ds) = false
-same_text (c ∷ cs) [] = false
-same_text (c ∷ cs) (d ∷ ds) = c == d && same_text cs ds
-
 -- `L..H`
 unfoldable pub between : List ℕ → Option (ℤ × ℤ)
 between text = do
@@ -51,26 +46,26 @@ between text = do
   if length t.1 == 0 then Some (lo, hi) else None
 
 -- `N` or `L..H`
-abbrev pub plain_range : Option (ℤ × ℤ) → List ℕ → Option RangeText
-plain_range (Some e) text = Some (Ends e.0 e.1)
-plain_range None text = number text >>= λ n. Some (One n)
+abbrev pub unstepped_range : Option (ℤ × ℤ) → List ℕ → Option RangeText
+unstepped_range (Some e) text = Some (Ends e.0 e.1)
+unstepped_range None text = number text >>= λ n. Some (One n)
 
 -- or `L..H/M`
 abbrev pub stepped_range : Option (List ℕ × List ℕ) → List ℕ → Option RangeText
 stepped_range (Some p) text =
     between p.0 >>= λ e. number p.1 >>= λ m. Some (Steps e.0 e.1 m)
-stepped_range None text = plain_range (between text) text
+stepped_range None text = unstepped_range (between text) text
 
 unfoldable pub range_text : List ℕ → Option RangeText
 range_text text =
-    if same_text text (codes "any") then Some Any
+    if bytes_eq text (codes "any") then Some Any
     else stepped_range (two (parts_of SLASH text)) text
 
 -- ---- what they stand for
 
 -- one number
-abbrev pub single : ℤ → NumberRange
-single n = record { lo = n; hi = n; modulus = pos 0; residue = n }
+abbrev pub one_number : ℤ → NumberRange
+one_number n = record { lo = n; hi = n; modulus = pos 0; residue = n }
 
 -- from lo to hi in steps, which has several numbers
 abbrev pub several : ℤ → ℤ → ℤ → NumberRange
@@ -94,15 +89,15 @@ range_has r n = int_le r.lo n && int_le n r.hi && (int_eq n r.lo || leads r.lo n
 
 -- the range of one number; none where it isn't a signed word
 abbrev pub one_of : ℤ → Option NumberRange
-one_of n = if is_signed n then Some (single n) else None
+one_of n = if is_signed n then Some (one_number n) else None
 
 -- the range of such steps; none where they aren't those of a range
 unfoldable pub steps_of : ℤ → ℤ → ℤ → Option NumberRange
 steps_of lo hi m =
     if is_rising lo hi && is_step m && leads lo hi m then Some (several lo hi m) else None
 
--- The range that a text stands for. None where a number isn't a signed word, the ends are the wrong way
--- round, or a step doesn't lead from the lower to the upper.
+-- The range that a text stands for. None where a number isn't a signed word, the ends are the wrong
+-- way round, or a step doesn't lead from the lower to the upper.
 abbrev pub range_of : RangeText → Option NumberRange
 range_of Any = Some any_word
 range_of (One n) = one_of n

@@ -196,7 +196,7 @@ abbrev pub judge_shape : SoFar → Option WrittenLine → Result PlanLine PlanRu
 judge_shape s None = Err rules.Form
 judge_shape s (Some w) = judge_value s (value_of w)
 
--- A line is judged after the lines before it: Form comes where it has none of the shapes, Number where
--- a number is wrong, and then the first of the other rules that it breaks.
+-- A line is judged after the lines before it: Form comes where it has none of the shapes, Number
+-- where a number is wrong, and then the first of the other rules that it breaks.
 abbrev pub judge_line : SoFar → List ℕ → Result PlanLine PlanRule
 judge_line s line = judge_shape s (shape_of (tokens_of line))

@@ -1,12 +1,13 @@
 -- The lines of a plan as they are written, and what they declare.
 use Rattle.std.specs.Prelude.{ℕ, ◌&&◌, ℤ, pos, int_le, unsigned_abs, Bool, true, false, List, [], ◌∷◌, codes, Option, Some, None, if◌then◌else◌}
+use Rattle.std.specs.Str.{bytes_eq}
 use Rattle.viper_word.specs.Words.{is_signed}
 use Rattle.viper_word.specs.declared.profile.Profile.{Profile}
 use Rattle.viper_word.specs.declared.profile.Profile.TheVariants as profiles
 use Rattle.text_lines.specs.Parts.{tokens_of, one, two, three, five, ◌>>=◌}
 use Rattle.memory_plan.specs.Hex.{hex_number}
 use Rattle.viper_word.specs.Ranges.{NumberRange}
-use Rattle.memory_plan.specs.Numbers.{number, same_text, range_text, range_of}
+use Rattle.memory_plan.specs.Numbers.{number, range_text, range_of}
 use Rattle.memory_plan.specs.Costs.{cost_name}
 use Rattle.line_text.specs.declared.digits.TheConstants.{ADDRESS_DIGITS}
 use Rattle.memory_plan.specs.declared.cost.TheConstants.{MOST_COST}
@@ -22,8 +23,8 @@ use Rattle.memory_plan.specs.declared.plan_line.PlanLine.TheVariants as lines
 -- `profile N`; the number is judged by its text
 abbrev pub profile_of : List ℕ → Option Profile
 profile_of text =
-    if same_text text (codes "1") then Some profiles.One
-    else if same_text text (codes "2") then Some profiles.Two
+    if bytes_eq text (codes "1") then Some profiles.One
+    else if bytes_eq text (codes "2") then Some profiles.Two
     else None
 
 unfoldable pub profile_shape : List (List ℕ) → Option WrittenLine
@@ -59,9 +60,9 @@ marker_shape tokens = do
 -- B: `0`, `1` or `any`
 unfoldable pub flag_of : List ℕ → Option (Option Bool)
 flag_of text =
-    if same_text text (codes "0") then Some (Some false)
-    else if same_text text (codes "1") then Some (Some true)
-    else if same_text text (codes "any") then Some None
+    if bytes_eq text (codes "0") then Some (Some false)
+    else if bytes_eq text (codes "1") then Some (Some true)
+    else if bytes_eq text (codes "any") then Some None
     else None
 
 -- `start AT RANGE RANGE RANGE B`
@@ -93,15 +94,15 @@ cost_shape tokens = do
 -- the shape that a line's first token tells
 abbrev pub shape_by : List ℕ → List (List ℕ) → Option WrittenLine
 shape_by kind tokens =
-    if same_text kind (codes "profile") then profile_shape tokens
-    else if same_text kind (codes "code") then code_shape tokens
-    else if same_text kind (codes "data") then span_shape Data tokens
-    else if same_text kind (codes "input") then span_shape Input tokens
-    else if same_text kind (codes "output") then span_shape Output tokens
-    else if same_text kind (codes "marker") then marker_shape tokens
-    else if same_text kind (codes "start") then start_shape tokens
-    else if same_text kind (codes "threshold") then threshold_shape tokens
-    else if same_text kind (codes "cost") then cost_shape tokens
+    if bytes_eq kind (codes "profile") then profile_shape tokens
+    else if bytes_eq kind (codes "code") then code_shape tokens
+    else if bytes_eq kind (codes "data") then span_shape Data tokens
+    else if bytes_eq kind (codes "input") then span_shape Input tokens
+    else if bytes_eq kind (codes "output") then span_shape Output tokens
+    else if bytes_eq kind (codes "marker") then marker_shape tokens
+    else if bytes_eq kind (codes "start") then start_shape tokens
+    else if bytes_eq kind (codes "threshold") then threshold_shape tokens
+    else if bytes_eq kind (codes "cost") then cost_shape tokens
     else None
 
 abbrev pub shape_of : List (List ℕ) → Option WrittenLine
@@ -123,7 +124,8 @@ is_cost n = int_le (pos 1) n && int_le n (pos MOST_COST)
 abbrev pub value_of : WrittenLine → Option PlanLine
 value_of (written.Profile p) = p >>= λ profile. Some (lines.Profile profile)
 value_of (written.Code lo hi) = Some (lines.Code lo hi)
-value_of (written.Region space lo hi r) = range_of r >>= λ range. Some (lines.Region space lo hi range)
+value_of (written.Region space lo hi r) =
+    range_of r >>= λ range. Some (lines.Region space lo hi range)
 value_of (written.Marker at) = Some (lines.Marker at)
 value_of (written.Start at a x y b) = start_of at b (range_of a) (range_of x) (range_of y)
 value_of (written.Threshold n) = if is_signed n then Some (lines.Threshold n) else None

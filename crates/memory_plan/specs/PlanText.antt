@@ -28,16 +28,22 @@ has_some (x ∷ xs) = true
 abbrev pub has_start : ImageWords → List PlanLine → Bool
 has_start image lines = has_some (plan_of image lines).starts
 
--- The text is that of the plan over the image: its lines that aren't skipped say lines of a plan, each
--- keeping all rules against those before it; one of them is a start; and the plan is what they declare.
+-- The text is that of the plan over the image: its lines that aren't skipped say lines of a plan,
+-- each keeping all rules against those before it; one of them is a start; and the plan is what they
+-- declare.
 pub record IsPlan (image : ImageWords) (text : List ℕ) (plan : PlanLines) : Type 0 where
   pub lines : List PlanLine
   pub whole : IsWhole (plan_grammar image) (has_start image) (kept_lines text) lines
   pub is : plan ≡ plan_of image lines
 
--- why a text isn't read as a plan: the first line that breaks a rule; or Start, one past the last line,
--- where no line does and none is a start; or want of memory
+-- why a text isn't read as a plan: the first line that breaks a rule; or Start, one past the last
+-- line, where no line does and none is a start; or want of memory
 abbrev pub IsPlanFault : ImageWords → List ℕ → PlanFault → Type 0
 IsPlanFault image text (faults.At line rule) =
-    Breaks (plan_grammar image) (has_start image) rules.Start (kept_lines text) (past_end text) line rule
+    Breaks (plan_grammar image) (has_start image) rules.Start (kept_lines text) (past_end text)
+    line rule
 IsPlanFault image text faults.Memory = Unit {0}
+
+-- the text breaks this rule first, at this line
+abbrev pub plan_fault : ImageWords → List ℕ → ℕ → PlanRule → Type 0
+plan_fault image text line rule = IsPlanFault image text (faults.At line rule)

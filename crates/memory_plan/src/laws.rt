@@ -2,11 +2,11 @@
 //! fault. And what the test of a range's numbers says.
 
 ghost use Rattle.std.specs.Prelude.{◌≡◌, ℕ, ℤ, List, true};
-ghost use Rattle.memory_plan.specs.Images.{ImageWords, IsImage};
+ghost use Rattle.text_lines.specs.Reading.{HasOneReading};
+ghost use Rattle.memory_plan.specs.Images.{ImageWords, IsImage, image_fault};
 ghost use Rattle.viper_word.specs.Ranges.{NumberRange, IsIn, IsNormal};
 ghost use Rattle.memory_plan.specs.Numbers.{range_has};
-ghost use Rattle.memory_plan.specs.OneReading.{HasOneReading, image_fault, plan_fault};
-ghost use Rattle.memory_plan.specs.PlanText.{IsPlan};
+ghost use Rattle.memory_plan.specs.PlanText.{IsPlan, plan_fault};
 
 /// A text is that of one image at the most, and else it has one first fault.
 pub fn one_image()

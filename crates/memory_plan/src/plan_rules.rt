@@ -16,13 +16,6 @@ use crate::range::Range;
 use crate::text_fault::PlanRule;
 use viper_word::{Addr, Word, signed};
 
-/// Has one of the code spans an address from `lo` to `hi`?
-fn meets_code(code: &[(Addr, Addr)], lo: Addr, hi: Addr) -> bool
-    ensures { result ≡ meets_code code.now lo hi }
-{
-    code.iter().any(|c| lo <= c.1 && c.0 <= hi)
-}
-
 /// Has one of the spans an address from `lo` to `hi`?
 fn meets(spans: &[(Addr, Addr, Range)], lo: Addr, hi: Addr) -> bool
     ensures { result ≡ meets spans.now lo hi }
@@ -100,9 +93,7 @@ impl Plan {
         ensures { result ≡ meets_in self.now space lo hi }
     {
         match space {
-            Space::Data => {
-                meets_code(self.code.as_slice(), lo, hi) || meets(self.data.as_slice(), lo, hi)
-            }
+            Space::Data => { self.code.meet(lo, hi) || meets(self.data.as_slice(), lo, hi) }
             Space::Input => meets(self.inputs.as_slice(), lo, hi),
             Space::Output => meets(self.outputs.as_slice(), lo, hi),
         }
@@ -114,7 +105,7 @@ impl Plan {
     {
         match line {
             PlanLine::Profile(_) => latest >= 1,
-            PlanLine::Code(..) => self.code.len() >= SPANS,
+            PlanLine::Code(..) => self.code.listed().len() >= SPANS,
             PlanLine::Region(Space::Data, ..) => self.data.len() >= SPANS,
             PlanLine::Region(Space::Input, ..) => self.inputs.len() >= SPANS,
             PlanLine::Region(Space::Output, ..) => self.outputs.len() >= SPANS,
@@ -130,7 +121,7 @@ impl Plan {
         ensures { result ≡ too_many_words self.now line.now }
     {
         match line {
-            PlanLine::Code(lo, hi) => self.words + size(*lo, *hi) > CODE_WORDS,
+            PlanLine::Code(lo, hi) => self.code.words() + size(*lo, *hi) > CODE_WORDS,
             PlanLine::Profile(_)
             | PlanLine::Region(..)
             | PlanLine::Marker(_)

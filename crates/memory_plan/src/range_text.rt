@@ -1,7 +1,8 @@
 //! Numbers and ranges as a plan writes them.
 
 ghost use Rattle.std.specs.Prelude.{◌≡◌, ◌<◌, ◌^◌, IfSome};
-ghost use Rattle.memory_plan.specs.Numbers.{decimal_digit, natural, number, same_text, between, range_text, range_of, plain_range};
+ghost use Rattle.std.specs.Str.{bytes_eq};
+ghost use Rattle.memory_plan.specs.Numbers.{decimal_digit, natural, number, between, range_text, range_of, unstepped_range};
 
 use crate::range::Range;
 use text_lines::{three_parts, two_parts};
@@ -73,7 +74,7 @@ pub fn number(text: &[u8]) -> Option<i64>
 
 /// Do the texts agree?
 pub fn is(text: &[u8], word: &[u8]) -> bool
-    ensures { result ≡ same_text text.now word.now }
+    ensures { result ≡ bytes_eq text.now word.now }
 {
     text == word
 }
@@ -90,8 +91,8 @@ fn between(text: &[u8]) -> Option<(i64, i64)>
 }
 
 /// A range without a step.
-fn plain_range(text: &[u8]) -> Option<RangeText>
-    ensures { result ≡ plain_range (between text.now) text.now }
+fn unstepped_range(text: &[u8]) -> Option<RangeText>
+    ensures { result ≡ unstepped_range (between text.now) text.now }
 {
     if let Some((lo, hi)) = between(text) {
         return Some(RangeText::Ends(lo, hi));
@@ -109,7 +110,7 @@ pub fn range_text(text: &[u8]) -> Option<RangeText>
         return Some(RangeText::Any);
     }
     let Some((ends, step)) = two_parts(SLASH, text) else {
-        return plain_range(text);
+        return unstepped_range(text);
     };
     let (lo, hi) = between(ends)?;
     let by = number(step)?;

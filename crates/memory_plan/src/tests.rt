@@ -7,7 +7,7 @@ use std::test::Fail;
 use viper_word::{Addr, Profile, Word};
 
 /// Texts that are shorter than this are read.
-const SHORT: usize = 100_000;
+const SHORT: usize = 300_000;
 
 /// The fault of a text as an image. None where it is one, or longer than those of these tests.
 fn image_fault(alloc: Global, text: &[u8]) -> Option<ImageFault> {
@@ -185,7 +185,27 @@ fn as_many_lines_are_taken_as_there_may_be(rt: HostRuntime) -> Result<(), Fail> 
     Ok(())
 }
 
-const PLAN: &[u8] = b"profile 2\ncode 00000 00001\ncode 00002 00002\ndata 00100 00101 -1..11/4\n\
+#[test]
+fn as_many_code_words_are_taken_as_there_may_be(rt: HostRuntime) -> Result<(), Fail> {
+    let image = repeated(rt.alloc(), b"", b"@ 00000000", 16_385)?;
+    let rows = plan_rows! {
+        b"code 00000 03FFF" => 2 Start,
+        b"code 00000 04000" => 1 Limit,
+        b"code 02000 03FFF\ncode 00000 01FFF" => 3 Start,
+        b"code 02000 03FFF\ncode 00000 02000" => 2 Limit,
+        b"code 02000 03FFF\ncode 00001 02000" => 2 Span,
+        b"code 00000 03FFF\ncode 00001 00000" => 2 Span,
+    };
+    for (text, line, rule) in &rows {
+        assert_eq!(rt;
+            plan_fault(rt.alloc(), image.as_slice(), text),
+            Some(broken(*line, *rule))
+        );
+    }
+    Ok(())
+}
+
+const PLAN: &[u8] = b"profile 2\ncode 00002 00002\ncode 00000 00001\ndata 00100 00101 -1..11/4\n\
 input 00020 00020 7\noutput 00020 00021 any\nmarker 00000\nstart 00000 -0 any 0..255 1\n\
 threshold -5\ncost READ 3\ncost OUT 9\n";
 
@@ -201,7 +221,10 @@ fn a_plan_gives_words_and_costs(rt: HostRuntime) -> Result<(), Fail> {
     let plan = plan_of_tests(rt.alloc())?;
     // an address, its code word, its word of the image
     let rows = [
+        (0x0, Some(Word(0x0050_0001)), Some(Word(0x0050_0001))),
+        (0x1, Some(Word(0x0030_0000)), Some(Word(0x0030_0000))),
         (0x2, Some(Word(0x0630_0000)), Some(Word(0x0630_0000))),
+        (0x3, None, None),
         (0x100, None, Some(Word(11))),
         (0x101, None, None),
     ];

@@ -12,8 +12,11 @@ use Rattle.memory_plan.proofs.WholePlans.{plan_well}
 use Rattle.memory_plan.proofs.RunsExist.{well_formed_runs}
 use Rattle.memory_plan.proofs.plan_text.read_plan.Goals as goal
 
-pub add-requires : goal.add-requires
-add-requires c = (kept (record { plan = c.loop-line.plan; latest = c.loop-line.latest }) c.in-Some.line.text.now c.in-Ok.said (sym c.in-Ok.ensures)).keeps.words
+pub add-requires-clause-few : goal.add-requires-clause-few
+add-requires-clause-few c = (kept (record { plan = c.loop-line.plan; latest = c.loop-line.latest }) c.in-Some.line.text.now c.in-Ok.said (sym c.in-Ok.ensures)).keeps.words
+
+pub add-requires-clause-apart : goal.add-requires-clause-apart
+add-requires-clause-apart c = (kept (record { plan = c.loop-line.plan; latest = c.loop-line.latest }) c.in-Some.line.text.now c.in-Ok.said (sym c.in-Ok.ensures)).keeps.span
 
 pub loop-line-init : goal.loop-line-init
 loop-line-init c = record {
