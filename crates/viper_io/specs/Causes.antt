@@ -32,7 +32,8 @@ Rose before now = risen before ≤ now
 
 -- to what was handed out
 abbrev pub handed_by : {V : Type 0} → (V → List ℕ) → List ℕ → ℕ → Result V FetchFault → List Handed
-handed_by items name limit (Ok v) = record { name = name; limit = limit; bytes = Some (items v) } ∷ []
+handed_by items name limit (Ok v) =
+    record { name = name; limit = limit; bytes = Some (items v) } ∷ []
 handed_by items name limit (Err Long) = record { name = name; limit = limit; bytes = None } ∷ []
 handed_by items name limit (Err Failed) = []
 handed_by items name limit (Err Memory) = []
@@ -64,8 +65,8 @@ faults_after faults (Err sink_fault.Memory) = faults
 
 -- ---- what is outside
 
--- What a store tells: whether it does, and what each name holds. What it keeps: the calls that failed and
--- what was handed out, the latest last, and how often a content was too long.
+-- What a store tells: whether it does, and what each name holds. What it keeps: the calls that
+-- failed and what was handed out, the latest last, and how often a content was too long.
 pub record Stock : Type 0 where
   pub tells : Bool
   pub holds : List ℕ → Option (List ℕ)

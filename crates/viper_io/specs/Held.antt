@@ -14,13 +14,15 @@ Contents = List (List ℕ × List ℕ)
 -- what a name holds, or None where it isn't there
 abbrev pub content_of : Contents → List ℕ → Option (List ℕ)
 content_of [] name = None
-content_of (entry ∷ entries) name = if bytes_eq entry.0 name then Some entry.1 else content_of entries name
+content_of (entry ∷ entries) name =
+    if bytes_eq entry.0 name then Some entry.1 else content_of entries name
 
 -- what a name holds where each name that isn't there holds the empty content
 abbrev pub content_or_empty : Contents → List ℕ → List ℕ
 content_or_empty contents name = unwrap_or (content_of contents name) []
 
--- a shelf that never fails: what it holds, how often a content was too long, and what was handed out
+-- a shelf that never fails: what it holds, how often a content was too long, and what was handed
+-- out
 pub record SureShelfState : Type 0 where
   pub contents : Contents
   pub longs : ℕ
@@ -38,7 +40,8 @@ sure_stock shelf = record { tells = true; holds = sure_holds shelf; failures = [
 abbrev pub sure_output : List ℕ → Output
 sure_output text = record { text = Some text; faults = 0 }
 
--- a shelf: what it holds, the numbers of the calls that are to fail, how many calls there were, which of them failed, how often a content was too long, and what was handed out
+-- a shelf: what it holds, the numbers of the calls that are to fail, how many calls there were,
+-- which of them failed, how often a content was too long, and what was handed out
 pub record ShelfState : Type 0 where
   pub contents : Contents
   pub failing : List ℕ
@@ -61,7 +64,8 @@ counted shelf = record shelf { calls = risen shelf.calls }
 
 -- the shelf after a call with that name failed
 abbrev pub failed_call : Call → List ℕ → ShelfState → ShelfState
-failed_call call name shelf = record shelf { failures = shelf.failures ++ record { call = call; name = name } ∷ [] }
+failed_call call name shelf =
+    record shelf { failures = shelf.failures ++ record { call = call; name = name } ∷ [] }
 
 -- a content of at most so many bytes: Failed where there is none, Long where it has more
 abbrev pub within : ℕ → Option (List ℕ) → Result (List ℕ) FetchFault
@@ -70,16 +74,19 @@ within limit (Some content) = if nat_le (length content) limit then Ok content e
 
 -- what a fetch answers that finds memory
 abbrev pub fetch_answer : ShelfState → List ℕ → ℕ → Result (List ℕ) FetchFault
-fetch_answer shelf name limit = if is_failing shelf then Err Failed else within limit (content_of shelf.contents name)
+fetch_answer shelf name limit =
+    if is_failing shelf then Err Failed else within limit (content_of shelf.contents name)
 
--- a page: its text, the numbers of the puts that are to fail with how many bytes each takes, how many puts there were, and how many failed
+-- a page: its text, the numbers of the puts that are to fail with how many bytes each takes, how
+-- many puts there were, and how many failed
 pub record PageState : Type 0 where
   pub bytes : List ℕ
   pub failing : List (ℕ × ℕ)
   pub puts : ℕ
   pub faults : ℕ
 
--- how many bytes the put of that number takes before it fails, or None where it is not to fail; of two entries of one number the first counts
+-- how many bytes the put of that number takes before it fails, or None where it is not to fail; of
+-- two entries of one number the first counts
 abbrev pub taken_of : List (ℕ × ℕ) → ℕ → Option ℕ
 taken_of [] put = None
 taken_of (entry ∷ entries) put = if nat_eq entry.0 put then Some entry.1 else taken_of entries put
@@ -88,13 +95,15 @@ taken_of (entry ∷ entries) put = if nat_eq entry.0 put then Some entry.1 else 
 abbrev pub Took : PageState → PageState → List ℕ → ℕ → Type 0
 Took before now bytes taken = now.bytes ≡ before.bytes ++ take taken bytes
 
--- the files of a system: which calls failed, how often a content was too long, and what was handed out
+-- the files of a system: which calls failed, how often a content was too long, and what was handed
+-- out
 pub record FileState : Type 0 where
   pub failures : List Failure
   pub longs : ℕ
   pub handed : List Handed
 
--- a sink over a writer: the bytes that the writer holds, where it tells them, and how often it failed
+-- a sink over a writer: the bytes that the writer holds, where it tells them, and how often it
+-- failed
 pub record OutState : Type 0 where
   pub written : Option (List ℕ)
   pub faults : ℕ

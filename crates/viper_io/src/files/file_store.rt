@@ -24,7 +24,11 @@ impl<'a, R: Files> Model for FileStore<'a, R> {
 
     ghost Value = { FileState };
 
-    ghost view = { λ s. record { failures = s.failures.items; longs = s.longs; handed = s.handouts.list } };
+    ghost view = { λ s. record {
+      failures = s.failures.items;
+      longs = s.longs;
+      handed = s.handouts.list;
+    } };
 }
 
 impl<'a, R: Files> FileStore<'a, R> {
@@ -77,7 +81,13 @@ fn write_file<R: Files>(files: &R, name: &str, bytes: &[u8]) -> bool {
 }
 
 impl<'a, R: Files> Store for FileStore<'a, R> {
-    ghost stock = { λ s. record { tells = false; holds = λ _. None; failures = s.failures; longs = s.longs; handed = s.handed } };
+    ghost stock = { λ s. record {
+      tells = false;
+      holds = λ _. None;
+      failures = s.failures;
+      longs = s.longs;
+      handed = s.handed;
+    } };
 
     /// The content of a file. It fails where the file can't be opened or read whole.
     fn fetch(&mut self, alloc: Global, name: &str, limit: u64) -> Result<Vec<u8>, FetchFault> {

@@ -36,7 +36,12 @@ impl Model for Page {
 
     ghost Value = { PageState };
 
-    ghost view = { λ p. record { bytes = p.bytes.items; failing = p.failing.items; puts = p.puts; faults = p.faults } };
+    ghost view = { λ p. record {
+      bytes = p.bytes.items;
+      failing = p.failing.items;
+      puts = p.puts;
+      faults = p.faults;
+    } };
 }
 
 impl Page {
@@ -63,7 +68,8 @@ impl Page {
     /// there are fewer, and fail. Of two entries for one put the first counts. A put that finds no
     /// memory is counted too.
     pub fn fail_at(&mut self, call: u64, taken: u64) -> Result<(), Memory>
-        ensures ok { OnOk result (self.new ≡ record self.old { failing = self.old.failing ++ (call, taken) ∷ [] }) }
+        ensures ok { OnOk result
+            (self.new ≡ record self.old { failing = self.old.failing ++ (call, taken) ∷ [] }) }
         ensures err { OnErr result (self.new ≡ self.old) }
     {
         self.failing

@@ -27,13 +27,27 @@ impl Model for Shelf {
 
     ghost Value = { ShelfState };
 
-    ghost view = { λ s. record { contents = s.contents; failing = s.failing.items; calls = s.calls; failures = s.failures.items; longs = s.longs; handed = s.handouts.list } };
+    ghost view = { λ s. record {
+      contents = s.contents;
+      failing = s.failing.items;
+      calls = s.calls;
+      failures = s.failures.items;
+      longs = s.longs;
+      handed = s.handouts.list;
+    } };
 }
 
 impl Shelf {
     /// A shelf that holds nothing, of which no call is to fail.
     pub fn new(alloc: Global) -> Shelf
-        ensures { result ≡ record { contents = []; failing = []; calls = 0; failures = []; longs = 0; handed = [] } }
+        ensures { result ≡ record {
+          contents = [];
+          failing = [];
+          calls = 0;
+          failures = [];
+          longs = 0;
+          handed = [];
+        } }
     {
         Shelf {
             alloc,
@@ -98,7 +112,13 @@ impl Shelf {
 impl Store for Shelf {
     ghost use Rattle.viper_io.specs.Held.{shelf_holds};
 
-    ghost stock = { λ s. record { tells = true; holds = shelf_holds s; failures = s.failures; longs = s.longs; handed = s.handed } };
+    ghost stock = { λ s. record {
+      tells = true;
+      holds = shelf_holds s;
+      failures = s.failures;
+      longs = s.longs;
+      handed = s.handed;
+    } };
 
     /// The content of a name. It fails exactly where its number is listed or the name isn't there.
     fn fetch(&mut self, alloc: Global, name: &str, limit: u64) -> Result<Vec<u8>, FetchFault>

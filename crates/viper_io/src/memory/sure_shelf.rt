@@ -23,7 +23,11 @@ impl Model for SureShelf {
 
     ghost Value = { SureShelfState };
 
-    ghost view = { λ s. record { contents = s.contents; longs = s.longs; handed = s.handouts.list } };
+    ghost view = { λ s. record {
+      contents = s.contents;
+      longs = s.longs;
+      handed = s.handouts.list;
+    } };
 }
 
 impl SureShelf {
