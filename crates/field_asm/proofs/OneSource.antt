@@ -1,8 +1,8 @@
 -- A text is a source of one image, or has one first fault.
-use Rattle.std.proofs.Common.{◌≡◌, ◌∙◌, ℕ, List, sym, ap}
+use Rattle.std.proofs.Common.{◌∙◌, ℕ, List, sym, ap}
 use Rattle.text_lines.specs.Lines.{kept_lines}
+use Rattle.text_lines.specs.Reading.{HasOneReading}
 use Rattle.text_lines.proofs.Readings.{said_once, reading_after_once}
-use Rattle.memory_plan.specs.OneReading.{HasOneReading}
 use Rattle.field_asm.specs.declared.fault.AsmRule.{AsmRule}
 use Rattle.field_asm.specs.Sources.{SourceLine, words_of, source_grammar, labels_of, label_grammar, IsSource, source_fault}
 

@@ -1,13 +1,13 @@
 -- The second pass: labels once all lines are known.
-use Rattle.std.proofs.Common.{◌≡◌, ◌∙◌, ℕ, Bool, true, false, cond, List, [], ◌∷◌, ◌++◌, Result, Ok, Err, refl, sym, ap, inl, inr}
+use Rattle.std.proofs.Common.{◌≡◌, ◌∙◌, ℕ, Bool, true, false, cond, List, [], ◌∷◌, ◌++◌, Result, Ok, Err, refl, sym, ap, inr}
 use Rattle.text_lines.specs.Lines.{NumberedLine, kept_lines}
-use Rattle.text_lines.specs.Reading.{Say, made}
+use Rattle.text_lines.specs.Reading.{made}
 use Rattle.text_lines.proofs.Readings.{IsReadTo, read_none, read_more, read_all, read_broken, made_push}
 use Rattle.memory_plan.specs.Images.{ImageWords}
 use Rattle.field_asm.specs.declared.fault.AsmFault.TheVariants.{At}
 use Rattle.field_asm.specs.declared.fault.AsmRule.{AsmRule}
 use Rattle.field_asm.specs.declared.fault.AsmRule.TheVariants.{Label}
-use Rattle.field_asm.specs.Sources.{SourceLine, Names, Is, Refers, SoFar, Labels, label_at, nothing_yet, add_line, add_word, words_of, judge_line, source_grammar, labels_of, unless_unknown, label_grammar, ◌>>=◌, IsSource, IsSourceFault}
+use Rattle.field_asm.specs.Sources.{SourceLine, Names, Is, Refers, SoFar, Labels, nothing_yet, add_line, add_word, words_of, judge_line, labels_of, unless_unknown, label_grammar, ◌>>=◌, IsSource, IsSourceFault}
 use Rattle.field_asm.specs.Resolving.{IsRead, is_known, IsAdded}
 
 known_said : (labels : Labels) (line : SourceLine) → is_known labels line ≡ true → unless_unknown labels line ≡ Ok line

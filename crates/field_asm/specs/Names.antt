@@ -1,11 +1,12 @@
 -- Tables of names: each code has the name at its place.
 use Rattle.std.specs.Prelude.{ℕ, ◌+◌, Bool, true, false, ◌&&◌, not, List, [], ◌∷◌, Option, Some, None, option_map, is_some, if◌then◌else◌}
-use Rattle.memory_plan.specs.Numbers.{same_text}
+use Rattle.std.specs.Str.{bytes_eq}
 
 -- the code of a name: the place of the first that is equal
 abbrev pub code_of : List (List ℕ) → List ℕ → Option ℕ
 code_of [] text = None
-code_of (name ∷ names) text = if same_text name text then Some 0 else option_map (λ code. code + 1) (code_of names text)
+code_of (name ∷ names) text =
+    if bytes_eq name text then Some 0 else option_map (λ code. code + 1) (code_of names text)
 
 -- is it a name?
 abbrev pub is_name : List ℕ → Bool

@@ -18,6 +18,7 @@ is_known labels (Is at word) = true
 is_known labels (Refers at fields text) = is_some (label_at labels text)
 
 -- what a line says was added, unless its label is unknown
-pub record IsAdded (labels : Labels) (before : ImageWords) (line : SourceLine) (after : ImageWords) (known : Bool) : Type 0 where
+pub record IsAdded (labels : Labels) (before : ImageWords) (line : SourceLine) (after : ImageWords)
+    (known : Bool) : Type 0 where
   pub known_is : known ≡ is_known labels line
   pub words : after ≡ (if known then add_word labels before line else before)

@@ -1,5 +1,5 @@
 -- The tokens of a source's lines: digits in upper case, labels and names.
-use Rattle.std.specs.Prelude.{ℕ, Bool, true, false, ◌&&◌, ◌||◌, ◌==◌, not, nat_le, List, [], ◌∷◌, length, Option, Some, None, Result, Ok, Err, if◌then◌else◌, codes}
+use Rattle.std.specs.Prelude.{ℕ, Bool, true, false, ◌&&◌, ◌||◌, ◌==◌, not, nat_le, List, [], ◌∷◌, length, Option, Some, None, if◌then◌else◌}
 use Rattle.std.specs.List.{list_any}
 use Rattle.memory_plan.specs.Hex.{hex_number}
 use Rattle.field_asm.specs.Names.{code_of}
@@ -26,7 +26,9 @@ begins_label (c ∷ cs) = is_lower c
 
 -- one lower-case letter, and at most 31 bytes that may stand in a label behind it
 abbrev pub is_label : List ℕ → Bool
-is_label text = begins_label text && (nat_le (length text) MOST_LABEL && not (list_any (λ c. not (is_label_byte c)) text))
+is_label text =
+    begins_label text && (nat_le (length text) MOST_LABEL
+    && not (list_any (λ c. not (is_label_byte c)) text))
 
 -- what a name says of a word: whether it is a comparison, and its function or comparison
 abbrev pub either_code : Option ℕ → Option ℕ → Option (Bool × ℕ)

@@ -2,7 +2,7 @@
 //! first fault.
 
 ghost use Rattle.std.specs.Prelude.{ℕ, List};
-ghost use Rattle.memory_plan.specs.OneReading.{HasOneReading};
+ghost use Rattle.text_lines.specs.Reading.{HasOneReading};
 ghost use Rattle.field_asm.specs.Sources.{IsSource, source_fault};
 
 /// A text is a source of one image at the most, and else it has one first fault.

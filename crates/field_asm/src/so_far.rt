@@ -34,7 +34,11 @@ impl<'a> Model for SoFar<'a> {
 
     ghost Value = { Given };
 
-    ghost view = { λ s. record { next = s.next; words = s.words; labels = labels_view s.labels.entries } };
+    ghost view = { λ s. record {
+      next = s.next;
+      words = s.words;
+      labels = labels_view s.labels.entries;
+    } };
 
     ghost invariant = { λ s. s.next ≤ 2 ^ 20 };
 }

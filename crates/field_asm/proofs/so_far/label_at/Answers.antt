@@ -1,4 +1,4 @@
-use Rattle.std.proofs.Common.{◌≡◌, ◌∙◌}
+use Rattle.std.proofs.Common.{◌∙◌}
 use Rattle.field_asm.proofs.SourceLemmas.{label_found}
 use Rattle.field_asm.proofs.so_far.label_at.Goals as goal
 

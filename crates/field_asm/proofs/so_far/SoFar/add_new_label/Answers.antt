@@ -1,4 +1,4 @@
-use Rattle.std.proofs.Common.{◌≡◌, ◌∙◌, ◌++◌, ◌∷◌, [], ap, sym}
+use Rattle.std.proofs.Common.{◌∙◌, ◌++◌, ◌∷◌, [], ap, sym}
 use Rattle.field_asm.specs.Sources.{SoFar, Labels, label_at}
 use Rattle.field_asm.specs.Views.{labels_view}
 use Rattle.field_asm.proofs.SourceLemmas.{label_added, where_ok}
