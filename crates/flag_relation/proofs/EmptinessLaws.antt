@@ -1,9 +1,8 @@
 -- A fact that some state meets isn't empty, and neither is a larger one than one that isn't.
 use Rattle.std.specs.Prelude.{◌≡◌, ℤ, int_le, Bool, true, false, not, ◌&&◌, List, [], ◌∷◌, Option, Some, None, IfSome, IsSomeAnd}
-use Rattle.std.proofs.Common.{refl, ap, arith, subst, sym, ◌∙◌, to_z, of_z, w64}
+use Rattle.std.proofs.Common.{refl, ap, subst, sym, ◌∙◌, to_z, of_z, w64}
 use Rattle.std.proofs.Math.Path.{ap₂}
-use Rattle.std.proofs.lemmas.Int.{ints}
-use Rattle.std.proofs.lemmas.Bool.{and_parts, and_from, false≢true}
+use Rattle.std.proofs.lemmas.Bool.{and_parts, and_from, false≢true, not-false}
 use Rattle.viper_word.specs.Words.{IsSigned, least_signed, greatest_signed}
 use Rattle.num_domain.specs.Domain.{Domain, Has, Below}
 use Rattle.num_domain.specs.Laws.{DomainLaws}
@@ -14,6 +13,7 @@ use Rattle.flag_relation.specs.Values.{Values, Regs, RelatedRegs, Pairwise}
 use Rattle.flag_relation.specs.Facts.{FactOf, values, Meets}
 use Rattle.flag_relation.specs.Order.{BelowFact}
 use Rattle.flag_relation.specs.Emptiness.{are_there, has_ends, regs_have_ends, cells_have_ends, is_empty}
+use Rattle.viper_word.proofs.SignedCode.{outer}
 
 some_there : (P : Ends → Type 0) (o : Option Ends) → IsSomeAnd o P → are_there o ≡ true
 some_there P None h = absurd h
@@ -23,17 +23,10 @@ there_grows : (P : Ends → Ends → Type 0) (o o' : Option Ends) → IfSome o (
 there_grows P None o' h t = absurd (false≢true t)
 there_grows P (Some r) o' h t = some_there (P r) o' h
 
-not_false : (b : Bool) → not b ≡ false → b ≡ true
-not_false true h = refl
-not_false false h = absurd (cc)
-
 when_there : (lo hi : ℤ) (b : Bool) (e : int_le lo hi ≡ b) → are_there (ends_when lo hi b e) ≡ b
 unfolding ends_when
 when_there lo hi true e = refl
 when_there lo hi false e = refl
-
-as_word : (z : ℤ) → IsSigned z → to_z w64 (of_z w64 z) ≡ z
-as_word z h = let a = h.low in let b = h.high in omega (arith, ints)
 
 some_signed : (o : Option ℤ) (z : ℤ) → IfSome o IsSigned → o ≡ Some z → IsSigned z
 some_signed o z h e = let k : IfSome (Some z) IsSigned = subst (λ (q : Option ℤ). IfSome q IsSigned) e h in k
@@ -45,7 +38,7 @@ module _ {T : Type 0} (d : Domain T) (laws : DomainLaws d) where
   ends_found v lo hi e f =
       let l = some_signed (d.least_from v least_signed) lo (laws.spans.least_in_w v least_signed) e in
       let h = some_signed (d.greatest_to v greatest_signed) hi (laws.spans.greatest_in_w v greatest_signed) f in
-      ap₂ int_le (as_word lo l) (as_word hi h)
+      ap₂ int_le (outer lo l) (outer hi h)
       ∙ subst (λ (o : Option ℤ). int_le lo hi ≡ are_there (bind o (λ a. bind (d.greatest_to v greatest_signed) (λ b. ends_when a b (int_le a b) refl)))) (sym e)
       (subst (λ (q : Option ℤ). int_le lo hi ≡ are_there (bind q (λ b. ends_when lo b (int_le lo b) refl))) (sym f) (sym (when_there lo hi (int_le lo hi) refl)))
 
@@ -85,5 +78,5 @@ module _ {T : Type 0} (d : Domain T) (laws : DomainLaws d) where
   pub larger_not_empty : (f g : FactOf T) → BelowFact d f g → is_empty d f ≡ false → is_empty d g ≡ false
   unfolding is_empty
   larger_not_empty f g h t =
-      let p = and_parts (regs_have_ends d (values f).regs) (cells_have_ends d f.cells) (not_false _ t) in
+      let p = and_parts (regs_have_ends d (values f).regs) (cells_have_ends d f.cells) (not-false _ t) in
       ap not (and_from _ _ (regs_grow (values f).regs (values g).regs h.values.regs p.0) (cells_grow f.cells g.cells h.values.cells p.1))

@@ -5,7 +5,7 @@ use Rattle.std.specs.Ordering.{int_eq}
 use Rattle.std.proofs.Common.{refl, arith, subst, sym, ◌∙◌, ap}
 use Rattle.std.proofs.Math.Path.{ap₂}
 use Rattle.std.proofs.lemmas.Int.{ints}
-use Rattle.std.proofs.lemmas.Bool.{and_parts, and_from, false≢true}
+use Rattle.std.proofs.lemmas.Bool.{and_parts, and_from, false≢true, eqb-true}
 use Rattle.std.proofs.lemmas.Bool.Decides.{nat_tests}
 use Rattle.viper_word.specs.declared.kind.Kind.{Kind}
 use Rattle.viper_word.specs.declared.kind.Kind.TheVariants.{Lt, Ge, Eq, Ne, Le, Gt, Ult, Uge}
@@ -22,17 +22,12 @@ use Rattle.flag_relation.specs.Facts.{LinkHolds, LinksHold, FlagSays}
 use Rattle.flag_relation.specs.Order.{LinkBelow, LinksBelow, FlagBelow, link_includes, links_include, flag_includes}
 use Rattle.flag_relation.specs.Equality.{kind_number, reg_number, right_eq, atom_eq, atoms_eq, link_eq}
 use Rattle.flag_relation.specs.Joins.{join_link, join_links, join_flags}
+use Rattle.viper_word.proofs.Integers.{eq_true}
 
 -- ---- equality, as a test
 
-eq_from : (m n : ℕ) → nat_eq m n ≡ true → m ≡ n
-eq_from m n h = grind (arith, nat_tests)
-
 eq_same : (n : ℕ) → nat_eq n n ≡ true
 eq_same n = grind (arith, nat_tests)
-
-z_from : (m n : ℤ) → int_eq m n ≡ true → m ≡ n
-z_from m n h = grind (arith, ints)
 
 z_same : (n : ℤ) → int_eq n n ≡ true
 z_same n = grind (arith, ints)
@@ -61,10 +56,10 @@ reg_back X = refl
 reg_back Y = refl
 
 right_from : (v w : Right) → right_eq v w ≡ true → v ≡ w
-right_from (Cell i) (Cell j) h = ap Cell (eq_from i j h)
+right_from (Cell i) (Cell j) h = ap Cell (eqb-true i j h)
 right_from (Cell i) (Const w) h = absurd (false≢true h)
 right_from (Const w) (Cell j) h = absurd (false≢true h)
-right_from (Const w) (Const v) h = ap (λ (n : ℕ). Const (record { 0 = n })) (eq_from w.0 v.0 h)
+right_from (Const w) (Const v) h = ap (λ (n : ℕ). Const (record { 0 = n })) (eqb-true w.0 v.0 h)
 
 right_same : (r : Right) → right_eq r r ≡ true
 right_same (Cell i) = eq_same i
@@ -74,8 +69,8 @@ pub atom_from : (a b : Atom) → atom_eq a b ≡ true → a ≡ b
 atom_from a b h =
     let p = and_parts (nat_eq (kind_number a.kind) (kind_number b.kind) && nat_eq (reg_number a.left) (reg_number b.left)) (right_eq a.right b.right) h in
     let q = and_parts (nat_eq (kind_number a.kind) (kind_number b.kind)) (nat_eq (reg_number a.left) (reg_number b.left)) p.0 in
-    let k = sym (kind_back a.kind) ∙ ap kind_of (eq_from (kind_number a.kind) (kind_number b.kind) q.0) ∙ kind_back b.kind in
-    let l = sym (reg_back a.left) ∙ ap reg_of (eq_from (reg_number a.left) (reg_number b.left) q.1) ∙ reg_back b.left in
+    let k = sym (kind_back a.kind) ∙ ap kind_of (eqb-true (kind_number a.kind) (kind_number b.kind) q.0) ∙ kind_back b.kind in
+    let l = sym (reg_back a.left) ∙ ap reg_of (eqb-true (reg_number a.left) (reg_number b.left) q.1) ∙ reg_back b.left in
     let r = right_from a.right b.right p.1 in
     λ i. record { kind = k i; left = l i; right = r i }
 
@@ -97,8 +92,8 @@ atoms_same (a ∷ l) = and_from (atom_eq a a) (atoms_eq l l) (atom_same a) (atom
 pub link_from : (l m : Link) → link_eq l m ≡ true → l ≡ m
 link_from l m h =
     let p = and_parts (nat_eq l.cell m.cell) (int_eq l.offset m.offset) h in
-    let c = eq_from l.cell m.cell p.0 in
-    let o = z_from l.offset m.offset p.1 in
+    let c = eqb-true l.cell m.cell p.0 in
+    let o = eq_true l.offset m.offset p.1 in
     λ i. record { cell = c i; offset = o i }
 
 pub link_same : (l : Link) → link_eq l l ≡ true

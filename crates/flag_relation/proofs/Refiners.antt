@@ -1,6 +1,6 @@
 -- Functions that refine values: they keep a state, they only shrink, they are monotone. Each is shown
 -- of the parts, and carries over to what comes after one another.
-use Rattle.std.specs.Prelude.{ℤ, List, [], ◌∷◌, Option, Some, None, IfSome, IsSomeAnd}
+use Rattle.std.specs.Prelude.{ℤ, List, [], ◌∷◌, Option, Some, IfSome, IsSomeAnd}
 use Rattle.num_domain.specs.Domain.{Domain, Has, Below}
 use Rattle.num_domain.specs.Laws.{DomainLaws}
 use Rattle.viper_word.specs.Options.{bind}
@@ -9,10 +9,6 @@ use Rattle.flag_relation.specs.Values.{Values, Pairwise}
 use Rattle.flag_relation.specs.Facts.{MeetsValues}
 use Rattle.flag_relation.specs.Order.{BelowValues}
 use Rattle.flag_relation.specs.Laws.{BelowSome}
-
-pub all_unit : {T : Type 0} (o : Option T) → IfSome o (λ _. Unit {0})
-all_unit None = tt
-all_unit (Some x) = tt
 
 module _ {T : Type 0} (d : Domain T) where
   pub record Shrinks (f : Values T → Option (Values T)) : Type 0 where

@@ -1,13 +1,12 @@
 -- Settling keeps the states that meet the links, only shrinks, and is monotone.
-use Rattle.std.specs.Prelude.{◌≡◌, ℤ, pos, ◌+ℤ◌, neg_ℤ, true, Option, Some, None}
-use Rattle.std.specs.Ordering.{int_eq}
+use Rattle.std.specs.Prelude.{◌≡◌, ℤ, pos, ◌+ℤ◌, neg_ℤ, Option, Some, None}
 use Rattle.std.proofs.Common.{arith, subst, sym}
 use Rattle.std.proofs.lemmas.Int.{ints}
 use Rattle.viper_word.specs.declared.kind.Kind.TheVariants.{Eq}
 use Rattle.viper_word.specs.Words.{IsSigned}
 use Rattle.num_domain.specs.Domain.{Domain, Has, Below}
 use Rattle.num_domain.specs.Laws.{DomainLaws}
-use Rattle.viper_word.proofs.Options.{some_bind, all_bind, bind_mono}
+use Rattle.viper_word.proofs.Options.{some_bind, all_bind, bind_mono, all_unit}
 use Rattle.viper_word.specs.declared.reg.Reg.{Reg}
 use Rattle.viper_word.specs.declared.reg.Reg.TheVariants.{A, X, Y}
 use Rattle.flag_relation.specs.declared.link.Link.{Link}
@@ -16,10 +15,8 @@ use Rattle.flag_relation.specs.Facts.{LinkHolds, LinksHold}
 use Rattle.flag_relation.specs.Order.{LinkBelow, LinksBelow, BelowValues}
 use Rattle.flag_relation.specs.Refining.{settle_link, settle_at, settle_pass, settle}
 use Rattle.flag_relation.proofs.ValueLemmas.{reg_related, cell_related, with_reg_related, with_cell_related, with_reg_left, with_cell_left}
-use Rattle.flag_relation.proofs.Refiners.{Shrinks, Keeps, Grows, some_shrinks, some_keeps, shrinks_grows, then_shrinks, then_keeps, then_grows, all_unit, values_refl}
-
-pub same_eq : (x y : ℤ) → x ≡ y → int_eq x y ≡ true
-same_eq x y h = grind (arith, ints)
+use Rattle.flag_relation.proofs.Refiners.{Shrinks, Keeps, Grows, some_shrinks, some_keeps, shrinks_grows, then_shrinks, then_keeps, then_grows, values_refl}
+use Rattle.viper_word.proofs.Integers.{true_eq}
 
 module _ {T : Type 0} (d : Domain T) (laws : DomainLaws d) where
   pub top_default : Has d d.top (pos 0)
@@ -50,9 +47,9 @@ module _ {T : Type 0} (d : Domain T) (laws : DomainLaws d) where
         let q : (y +ℤ l.offset) ≡ x = sym h in
         some_bind (λ m. Has d m (x +ℤ neg_ℤ l.offset)) P (d.moved (reg v r) (neg_ℤ l.offset)) _
         (laws.sound.moved (neg_ℤ l.offset) (reg v r) x hx (subst IsSigned (sym p) (laws.order.in_w (cell d.top v l.cell) y hy)))
-        (λ m hm. some_bind (λ c. Has d c y) P (d.refine (cell d.top v l.cell) Eq m) _ (laws.sound.refine (cell d.top v l.cell) m Eq y (x +ℤ neg_ℤ l.offset) hy hm (same_eq y (x +ℤ neg_ℤ l.offset) (sym p)))
+        (λ m hm. some_bind (λ c. Has d c y) P (d.refine (cell d.top v l.cell) Eq m) _ (laws.sound.refine (cell d.top v l.cell) m Eq y (x +ℤ neg_ℤ l.offset) hy hm (true_eq y (x +ℤ neg_ℤ l.offset) (sym p)))
         (λ c hc. some_bind (λ n. Has d n (y +ℤ l.offset)) P (d.moved c l.offset) _ (laws.sound.moved l.offset c y hc (subst IsSigned (sym q) (laws.order.in_w (reg v r) x hx)))
-        (λ n hn. some_bind (λ s. Has d s x) P (d.refine (reg v r) Eq n) _ (laws.sound.refine (reg v r) n Eq x (y +ℤ l.offset) hx hn (same_eq x (y +ℤ l.offset) (sym q)))
+        (λ n hn. some_bind (λ s. Has d s x) P (d.refine (reg v r) Eq n) _ (laws.sound.refine (reg v r) n Eq x (y +ℤ l.offset) hx hn (true_eq x (y +ℤ l.offset) (sym q)))
         (λ s hs. with_reg_left (Has d) (with_cell v l.cell c) e (with_cell_left (Has d) (pos 0) v e k l.cell c hc) r s hs))));
   }
 
