@@ -1,6 +1,6 @@
 -- What is found word by word is, in ascending order, what there is.
 use Rattle.std.proofs.Common.{◌≡◌, ℕ, zero, suc, ◌+◌, ◌<◌, ◌≤◌, ◌^◌, ◌==◌, Bool, true, false, ◌||◌, cond, Option, None, Some, List, [], ◌∷◌, length, drop, refl, sym, ap, subst, ◌∙◌, ⊎_elim, arith}
-use Rattle.std.proofs.lemmas.Bool.{false≢true, eq-eqb, or_cases}
+use Rattle.std.proofs.lemmas.Bool.{false≢true, eq-eqb, or_cases, or_right, eqb-true}
 use Rattle.std.proofs.lemmas.Cmp.{ranked}
 use Rattle.std.specs.List.{AllByRecursion, list_any}
 use Rattle.std.specs.List.Sorted.{IsStrictlySortedBy}
@@ -10,9 +10,10 @@ use Rattle.std.specs.Ordering.{nat_cmp, match_ordering}
 use Rattle.std.specs.declared.cmp.Ordering.{Ordering}
 use Rattle.std.specs.declared.cmp.Ordering.TheVariants.{Less, Equal, Greater}
 use Rattle.std.proofs.lemmas.List.{at_drop_all}
+use Rattle.std.proofs.lemmas.Option.{cond_some}
 use Rattle.viper_word.specs.Fields.{fields_of}
 use Rattle.viper_word.specs.declared.word.Word.{Word}
-use Rattle.viper_word.proofs.Booleans.{test_equal, guard_some}
+use Rattle.viper_word.proofs.Booleans.{or_swap}
 use Rattle.memory_plan.specs.Images.{entries}
 use Rattle.memory_plan.specs.Plans.{PlanLines}
 use Rattle.flow_recover.specs.Cells.{named_by, is_cell, passing, AreCells, with_named}
@@ -20,11 +21,6 @@ use Rattle.flow_recover.specs.Cells.{named_by, is_cell, passing, AreCells, with_
 -- is the number one of them?
 abbrev pub is_one : ℕ → List ℕ → Bool
 is_one q ks = list_any (λ c. c == q) ks
-
-or_swap : (a b c : Bool) → (a || (b || c)) ≡ (b || (a || c))
-or_swap true true c = refl
-or_swap true false c = refl
-or_swap false b c = refl
 
 or_again : (a b : Bool) → (a || b) ≡ (a || (a || b))
 or_again true b = refl
@@ -38,10 +34,6 @@ or_move false b c = refl
 or_none : (a : Bool) → a ≡ (a || false)
 or_none true = refl
 or_none false = refl
-
-or_right : (a b : Bool) → b ≡ true → (a || b) ≡ true
-or_right true b h = refl
-or_right false b h = h
 
 -- ---- the words, one after the other
 
@@ -124,7 +116,7 @@ none_at at n (y ∷ ys) m w = none_here at n y ys (y == at) refl m w.0 (λ h. no
 
 not_here : (k at y : ℕ) (ys : List ℕ) (b : Bool) → (y == at) ≡ b → at ≤ k → k < y → is_one at ys ≡ false → (b || is_one at ys) ≡ false
 not_here k at y ys true e l m rest =
-    let same = test_equal y at e in
+    let same = eqb-true y at e in
     absurd (omega arith)
 not_here k at y ys false e l m rest = rest
 
@@ -134,7 +126,7 @@ is_least k at (y ∷ ys) l s = not_here k at y ys (y == at) refl l (less_below k
 
 later : (k at q : ℕ) (ks : List ℕ) (b : Bool) → (k == q) ≡ b → k ≡ at → suc at ≤ q → is_one q ks ≡ (b || is_one q ks)
 later k at q ks true e same l =
-    let other = test_equal k q e in
+    let other = eqb-true k q e in
     absurd (omega arith)
 later k at q ks false e same l = refl
 
@@ -146,7 +138,7 @@ first_here : (p : ℕ → Bool) (at n k : ℕ) (ks : List ℕ) (b : Bool) → (k
     → k ∷ ks ≡ at ∷ passing p (suc at) n
 first_here p at n k ks false e h s w m rest = absurd (false≢true (sym (is_least k at ks w.0.low s) ∙ h))
 first_here p at n k ks true e h s w m rest =
-    let same = test_equal k at e in
+    let same = eqb-true k at e in
     let tail = rest (all_above k at n ks w.0.low s w.1) (λ q l. later k at q ks (k == q) refl same l ∙ m q (omega arith)) in
     λ i. same i ∷ tail i
 
@@ -183,8 +175,8 @@ named_small plan e q h = by (named_by plan e) refl h
     by : (o : Option ℕ) → named_by plan e ≡ o → option_map_or (λ a. a == q) o false ≡ true → q < 2 ^ 20
     by None i h = absurd (false≢true h)
     by (Some a) i h =
-        let field = (guard_some _ (fields_of e.1).field a i).1 in
-        let same = test_equal a q h in
+        let field = (cond_some _ (fields_of e.1).field a i).1 in
+        let same = eqb-true a q h in
         omega arith
 
 cell_small : (plan : PlanLines) (es : List (ℕ × ℕ)) (q : ℕ) → list_any (λ e. option_map_or (λ a. a == q) (named_by plan e) false) es ≡ true → q < 2 ^ 20

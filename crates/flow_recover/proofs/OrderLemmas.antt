@@ -1,6 +1,6 @@
 -- A list has one order in which it ascends.
 use Rattle.std.proofs.Common.{◌≡◌, ℕ, suc, ◌+◌, ◌<◌, ◌≤◌, ℤ, pos, ◌≤ℤ◌, ◌<ℤ◌, int_le, int_lt, true, false, cond, List, [], ◌∷◌, length, get_or, refl, sym, ap, ap₂, ◌∙◌, ⊎_elim, arith}
-use Rattle.std.proofs.lemmas.Bool.{cases_Bool, false≢true, cond_both}
+use Rattle.std.proofs.lemmas.Bool.{cases_Bool, cond_both}
 use Rattle.std.proofs.lemmas.Int.{ints}
 use Rattle.std.proofs.lemmas.Cmp.{int_cmp_total}
 use Rattle.std.proofs.lemmas.List.Sorted.{ranks_by, sorted_far, sum_by-IsPermutation}
@@ -8,8 +8,9 @@ use Rattle.std.proofs.lemmas.List.Sums.{sum_by-cons}
 use Rattle.std.specs.List.{AllByRecursion, sum_by}
 use Rattle.std.specs.List.Sorted.{IsPermutation, IsSorted}
 use Rattle.std.specs.Ordering.{int_cmp, int_eq, is_lt}
-use Rattle.viper_word.proofs.Integers.{le_true, le_false}
+use Rattle.viper_word.proofs.Integers.{le_true, le_false, less_true}
 use Rattle.flow_recover.specs.Thresholds.{placed, in_order}
+use Rattle.num_domain.proofs.ThresholdLemmas.{not_under}
 
 -- each number is at most those after it
 abbrev pub Rises : List ℤ → Type 0
@@ -48,9 +49,6 @@ none_above q x (y ∷ ys) h a =
     let l = a.0 in
     ap₂ ◌+◌ (once_apart q y (omega (arith, ints))) (none_above q x ys h a.1)
 
-lt_true : (x y : ℤ) → int_lt x y ≡ true → x <ℤ y
-lt_true x y h = grind (arith, ints)
-
 neither : (x y : ℤ) → int_lt x y ≡ false → int_lt y x ≡ false → x ≡ y
 neither x y h k = grind (arith, ints)
 
@@ -73,8 +71,8 @@ one_order [] [] r s c = refl
 one_order [] (y ∷ ys) r s c = absurd (some_not_none (once y y) (count y ys) (once_same y) (c y))
 one_order (x ∷ xs) [] r s c = absurd (some_not_none (once x x) (count x xs) (once_same x) (sym (c x)))
 one_order (x ∷ xs) (y ∷ ys) r s c =
-    let same : x ≡ y = ⊎_elim (λ (l : int_lt x y ≡ true). absurd (not_below x xs y ys s.0 (c x) (lt_true x y l)))
-    (λ (l : int_lt x y ≡ false). ⊎_elim (λ (m : int_lt y x ≡ true). absurd (not_below y ys x xs r.0 (sym (c y)) (lt_true y x m))) (λ (m : int_lt y x ≡ false). neither x y l m) (cases_Bool (int_lt y x)))
+    let same : x ≡ y = ⊎_elim (λ (l : int_lt x y ≡ true). absurd (not_below x xs y ys s.0 (c x) (less_true x y l)))
+    (λ (l : int_lt x y ≡ false). ⊎_elim (λ (m : int_lt y x ≡ true). absurd (not_below y ys x xs r.0 (sym (c y)) (less_true y x m))) (λ (m : int_lt y x ≡ false). neither x y l m) (cases_Bool (int_lt y x)))
     (cases_Bool (int_lt x y)) in
     let rest : xs ≡ ys = one_order xs ys r.1 s.1 (λ q. cancelled (once q x) (count q xs) (once q y) (count q ys) (c q) (ap (once q) same)) in
     λ i. same i ∷ rest i
@@ -126,16 +124,8 @@ rises_from (t ∷ ts) h = (above ts (λ j l. h 0 (suc j) (omega arith) (omega ar
     above [] h = tt
     above (u ∷ us) h = (h 0 (omega arith), above us (λ j l. h (suc j) (omega arith)))
 
-not_less : (x y : ℤ) → int_lt x y ≡ false → y ≤ℤ x
-not_less x y e = grind (arith, ints)
-
 sorted_rises : (ts : List ℤ) → IsSorted int_cmp ts → Rises ts
 sorted_rises ts h = rises_from ts (λ i j l m. not_under (get_or ts j (pos 0)) (get_or ts i (pos 0)) (sorted_far (λ x y. is_lt (int_cmp x y)) (ranks_by int_cmp_total (λ (x : ℤ). x)) ts h i j (pos 0) l m))
-  where
-    not_under : (x y : ℤ) → is_lt (int_cmp x y) ≡ false → y ≤ℤ x
-    not_under x y h =
-        ⊎_elim (λ (e : int_lt x y ≡ true). let f : is_lt (int_cmp x y) ≡ true = rw e refl in absurd (false≢true (sym h ∙ f)))
-        (λ (e : int_lt x y ≡ false). not_less x y e) (cases_Bool (int_lt x y))
 
 pub sorted_is : (ns ts : List ℤ) → IsPermutation ns ts → IsSorted int_cmp ts → ts ≡ in_order ns
 sorted_is ns ts p h =

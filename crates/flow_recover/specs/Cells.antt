@@ -6,15 +6,20 @@ use Rattle.std.specs.BTreeSet.{insert_key}
 use Rattle.std.specs.Ordering.{nat_cmp}
 use Rattle.std.proofs.Common.{zero, suc}
 use Rattle.viper_word.specs.Fields.{Fields, fields_of, is_function, is_store}
+use Rattle.viper_decode.specs.declared.codes.mode.TheConstants.{AT_FIELD}
+use Rattle.viper_decode.specs.declared.codes.function.TheConstants.{INP, SHIFT}
 use Rattle.memory_plan.specs.Plans.{PlanLines, in_code, range_at}
 use Rattle.flow_recover.specs.declared.cells.TheConstants.{MOST_CELLS}
 
--- M 1, and the address is one of memory: of a comparison, of a store, or of a function other than INP
--- and SHIFT
+-- M 1, and the address is one of memory: of a comparison, of a store, or of a function other than
+-- INP and SHIFT
 abbrev pub names_memory : Fields → Bool
-names_memory i = (i.m == 1) && (i.c || (is_store i || (is_function i && not ((i.f == 2) || (i.f == 12)))))
+names_memory i =
+    (i.m == AT_FIELD)
+    && (i.c || (is_store i || (is_function i && not ((i.f == INP) || (i.f == SHIFT)))))
 
--- the data address that a word of the image names: none where it isn't in code, or names no such one
+-- the data address that a word of the image names: none where it isn't in code, or names no such
+-- one
 abbrev pub named_by : PlanLines → ℕ × ℕ → Option ℕ
 named_by plan e =
     let i : Fields = fields_of e.1 in

@@ -24,8 +24,8 @@ ends_at s = ends_of s.2
 abbrev pub ends_of_start : Start → List ℤ
 ends_of_start s = ends_of s.a ++ ends_of s.x ++ ends_of s.y
 
--- the numbers that a plan gives: -1, 0 and 1, those of code, of the regions' and the starts' ranges,
--- and those that it lists
+-- the numbers that a plan gives: -1, 0 and 1, those of code, of the regions' and the starts'
+-- ranges, and those that it lists
 abbrev pub numbers_of : PlanLines → List ℤ
 numbers_of plan =
     (neg_ℤ (pos 1) ∷ pos 0 ∷ pos 1 ∷ [])
