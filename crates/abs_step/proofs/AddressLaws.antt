@@ -1,27 +1,13 @@
 -- Tests and lists over spans of addresses.
-use Rattle.std.specs.Prelude.{◌≡◌, ℕ, ◌+◌, ◌<◌, ◌≤◌, Bool, true, false, not, ◌&&◌, ◌||◌, cond, List, [], ◌∷◌, length, Option, Some, None, IfSome, nat_eq}
+use Rattle.std.specs.Prelude.{◌≡◌, ℕ, ◌+◌, ◌<◌, ◌≤◌, Bool, true, false, not, ◌&&◌, cond, List, [], ◌∷◌, length, Option, Some, None, IfSome, nat_eq}
 use Rattle.std.specs.List.{list_any}
 use Rattle.std.proofs.Common.{refl, arith, zero, suc, sym, subst, ⊎_elim}
 use Rattle.std.proofs.Math.Nat.{eq-or-lt_of_le}
-use Rattle.std.proofs.lemmas.Bool.{and_parts, and_from, false≢true}
-use Rattle.std.proofs.lemmas.Bool.Decides.{nat_tests}
+use Rattle.std.proofs.lemmas.Bool.{and_parts, and_from, false≢true, or_left, or_right, eqb-true}
 use Rattle.viper_word.specs.Options.{bind}
 use Rattle.abs_step.specs.Addresses.{any_from, passing, find_cell}
 use Rattle.abs_step.specs.Writes.{hits}
-
-pub or_true : (x y x' y' : Bool) → (x ≡ true → x' ≡ true) → (y ≡ true → y' ≡ true) → (x || y) ≡ true → (x' || y') ≡ true
-or_true true y true y' f g h = refl
-or_true true y false y' f g h = absurd (false≢true (f refl))
-or_true false y true y' f g h = refl
-or_true false y false y' f g h = g h
-
-or_first : (x y : Bool) → x ≡ true → (x || y) ≡ true
-or_first true y h = refl
-or_first false y h = absurd (false≢true h)
-
-or_second : (x y : Bool) → y ≡ true → (x || y) ≡ true
-or_second true y h = refl
-or_second false y h = h
+use Rattle.viper_word.proofs.Booleans.{or_mono}
 
 pub and_grows : (x y x' y' : Bool) → (x ≡ true → x' ≡ true) → (y ≡ true → y' ≡ true) → (x && y) ≡ true → (x' && y') ≡ true
 and_grows x y x' y' f g h = let p = and_parts x y h in and_from x' y' (f p.0) (g p.1)
@@ -34,14 +20,14 @@ not_falls false y f h = refl
 pub any_from_grows : (p q : ℕ → Bool) (at n : ℕ) → ((k : ℕ) → p k ≡ true → q k ≡ true) → any_from p at n ≡ true → any_from q at n ≡ true
 unfolding any_from
 any_from_grows p q at zero f h = h
-any_from_grows p q at (suc n) f h = or_true (p at) (any_from p (suc at) n) (q at) (any_from q (suc at) n) (f at) (any_from_grows p q (suc at) n f) h
+any_from_grows p q at (suc n) f h = or_mono (p at) (any_from p (suc at) n) (q at) (any_from q (suc at) n) (f at) (any_from_grows p q (suc at) n f) h
 
 pub any_from_at : (p : ℕ → Bool) (at n k : ℕ) → at ≤ k → k < at + n → p k ≡ true → any_from p at n ≡ true
 unfolding any_from
 any_from_at p at zero k h m t = absurd (omega arith)
 any_from_at p at (suc n) k h m t =
-    ⊎_elim (λ (e : at ≡ k). or_first (p at) (any_from p (suc at) n) (subst (λ (j : ℕ). p j ≡ true) (sym e) t))
-    (λ (e : at < k). or_second (p at) (any_from p (suc at) n) (any_from_at p (suc at) n k (omega arith) (omega arith) t)) (eq-or-lt_of_le h)
+    ⊎_elim (λ (e : at ≡ k). or_left (p at) (any_from p (suc at) n) (subst (λ (j : ℕ). p j ≡ true) (sym e) t))
+    (λ (e : at < k). or_right (p at) (any_from p (suc at) n) (any_from_at p (suc at) n k (omega arith) (omega arith) t)) (eq-or-lt_of_le h)
 
 -- where nothing of a larger set passes, nothing of a smaller one does
 pub none_falls : (p q : ℕ → Bool) (at n : ℕ) → ((k : ℕ) → p k ≡ true → q k ≡ true) → not (any_from q at n) ≡ true → not (any_from p at n) ≡ true
@@ -61,7 +47,7 @@ passing_count p q at (suc n) f = by_tests (p at) (q at) (f at) (passing_count p 
 
 pub list_any_grows : {S : Type 0} (p q : S → Bool) (l : List S) → ((s : S) → p s ≡ true → q s ≡ true) → list_any p l ≡ true → list_any q l ≡ true
 list_any_grows p q [] f h = h
-list_any_grows p q (s ∷ l) f h = or_true (p s) (list_any p l) (q s) (list_any q l) (f s) (list_any_grows p q l f) h
+list_any_grows p q (s ∷ l) f h = or_mono (p s) (list_any p l) (q s) (list_any q l) (f s) (list_any_grows p q l f) h
 
 -- ---- cells that pass
 
@@ -70,15 +56,12 @@ hits_grow p q [] i f h = h
 hits_grow p q (c ∷ cs) zero f h = f c h
 hits_grow p q (c ∷ cs) (suc i) f h = hits_grow p q cs i f h
 
-pub eq_true : (m n : ℕ) → nat_eq m n ≡ true → m ≡ n
-eq_true m n h = grind (arith, nat_tests)
-
 -- the cell at an address that passes
 pub found_hits : (p : ℕ → Bool) (cells : List ℕ) (n : ℕ) → p n ≡ true → IfSome (find_cell cells n) (λ i. (hits p cells i ≡ true) × (list_any p cells ≡ true))
 found_hits p [] n t = tt
 found_hits p (c ∷ cs) n t = by_test (nat_eq c n) refl (find_cell cs n) (found_hits p cs n t)
   where
     by_test : (b : Bool) → nat_eq c n ≡ b → (o : Option ℕ) → IfSome o (λ i. (hits p cs i ≡ true) × (list_any p cs ≡ true)) → IfSome (cond b (Some 0) (bind o (λ i. Some (suc i)))) (λ i. (hits p (c ∷ cs) i ≡ true) × (list_any p (c ∷ cs) ≡ true))
-    by_test true e o h = let k = subst (λ (j : ℕ). p j ≡ true) (sym (eq_true c n e)) t in (k, or_first (p c) (list_any p cs) k)
+    by_test true e o h = let k = subst (λ (j : ℕ). p j ≡ true) (sym (eqb-true c n e)) t in (k, or_left (p c) (list_any p cs) k)
     by_test false e None h = tt
-    by_test false e (Some i) h = (h.0, or_second (p c) (list_any p cs) h.1)
+    by_test false e (Some i) h = (h.0, or_right (p c) (list_any p cs) h.1)

@@ -1,5 +1,5 @@
 -- A condition that holds of a larger fact holds of the smaller one.
-use Rattle.std.specs.Prelude.{◌≡◌, ℕ, ◌≤◌, ℤ, pos, ◌-◌, ◌^◌, ◌+ℤ◌, ◌<ℤ◌, int_le, int_lt, Bool, true, false, not, ◌&&◌, ◌||◌, nat_le, nat_lt, List, length, Option, Some, None, IfSome, IsSomeAnd}
+use Rattle.std.specs.Prelude.{◌≡◌, ℕ, ◌≤◌, ℤ, pos, ◌-◌, ◌^◌, ◌+ℤ◌, int_le, Bool, true, false, not, ◌&&◌, ◌||◌, nat_le, nat_lt, List, length, Option, Some, None, IfSome, IsSomeAnd}
 use Rattle.std.specs.Ordering.{int_eq}
 use Rattle.std.proofs.Common.{refl, arith}
 use Rattle.std.proofs.lemmas.Int.{ints}
@@ -10,7 +10,7 @@ use Rattle.num_domain.specs.Domain.{Domain, Below, BelowOption}
 use Rattle.num_domain.specs.Laws.{DomainLaws}
 use Rattle.viper_word.specs.Options.{bind}
 use Rattle.viper_word.proofs.Options.{bind_mono}
-use Rattle.viper_word.proofs.Integers.{le_true, true_le}
+use Rattle.viper_word.proofs.Integers.{le_true, true_le, less_true, true_less}
 use Rattle.num_domain.specs.Ends.{Ends, Within, ends, is_point}
 use Rattle.num_domain.proofs.EndsLaws.{ends_grow, points_grow}
 use Rattle.viper_word.specs.Ranges.{NumberRange}
@@ -111,19 +111,13 @@ twice_falls (Some e) (Some e') h m =
     let u = h.hi in
     and_from _ _ (true_le least_signed (e.lo +ℤ e.lo) (omega (arith, ints))) (true_le (e.hi +ℤ e.hi) greatest_signed (omega (arith, ints)))
 
-lt_true : (x y : ℤ) → int_lt x y ≡ true → x <ℤ y
-lt_true x y h = grind (arith, ints)
-
-true_lt : (x y : ℤ) → x <ℤ y → int_lt x y ≡ true
-true_lt x y h = grind (arith, ints)
-
 above_falls : (e e' : Option Ends) → Wider e e' → above_least e' ≡ true → above_least e ≡ true
 above_falls None e' h m = refl
 above_falls (Some e) None h m = absurd h
 above_falls (Some e) (Some e') h m =
-    let a = lt_true least_signed e'.lo m in
+    let a = less_true least_signed e'.lo m in
     let l = h.lo in
-    true_lt least_signed e.lo (omega (arith, ints))
+    true_less least_signed e.lo (omega (arith, ints))
 
 small_le : (m n : ℕ) → m ≤ n → nat_le n 64 ≡ true → nat_le m 64 ≡ true
 small_le m n h k = grind (arith, nat_tests)

@@ -2,7 +2,7 @@
 use Rattle.std.specs.Prelude.{◌≡◌, ℕ, ◌+◌, ◌-◌, ◌^◌, ◌<◌, ℤ, pos, ◌+ℤ◌, int_le, Bool, true, false, not, ◌&&◌, ◌||◌, cond, List, [], ◌++◌, Option, Some, None, IfSome, IsSomeAnd, ◌⊎◌}
 use Rattle.std.proofs.Common.{refl, arith, sym, subst, ⊎_elim, inl, inr}
 use Rattle.std.proofs.lemmas.Int.{ints}
-use Rattle.std.proofs.lemmas.Bool.{false≢true}
+use Rattle.std.proofs.lemmas.Bool.{false≢true, not-true, not-false}
 use Rattle.viper_word.specs.Signed.{signed_compares}
 use Rattle.viper_word.specs.declared.kind.Kind.{Kind}
 use Rattle.num_domain.specs.Domain.{Domain, Has}
@@ -43,17 +43,8 @@ use Rattle.viper_decode.specs.declared.instructions.Side.{Side}
 use Rattle.viper_decode.specs.declared.instructions.Side.TheVariants.{Always, IfB, IfNotB}
 use Rattle.viper_decode.specs.declared.instructions.Instruction.{Instruction}
 use Rattle.viper_decode.specs.declared.instructions.Instruction.TheVariants.{Compare, Assign, Jump, Output, Store}
-
-some_bind_is : {S U : Type 0} (P : S → Type 0) (Q : U → Type 0) (o : Option S) (f : S → Option U) → IsSomeAnd o P → ((x : S) → o ≡ Some x → P x → IsSomeAnd (f x) Q) → IsSomeAnd (bind o f) Q
-some_bind_is P Q None f h k = absurd h
-some_bind_is P Q (Some x) f h k = k x refl h
-
-some_more : {A : Type 0} (P Q : A → Type 0) (o : Option A) → IsSomeAnd o P → ((x : A) → P x → Q x) → IsSomeAnd o Q
-some_more P Q None h k = absurd h
-some_more P Q (Some x) h k = k x h
-
-int_is : (x y : ℤ) → int_eq x y ≡ true → x ≡ y
-int_is x y h = grind (arith, ints)
+use Rattle.viper_word.proofs.Options.{some_bind_is, some_some}
+use Rattle.viper_word.proofs.Integers.{eq_true}
 
 -- the operand of a instruction is one, and its answer is fair
 module _ {T : Type 0} (d : Domain T) (laws : DomainLaws d) where
@@ -122,7 +113,7 @@ module _ {T : Type 0} (d : Domain T) (laws : DomainLaws d) where
 
       by_test : (w : Bool) → int_eq e.lo e.hi ≡ w → SpotHas (addressed d (Index a r) v) n (cond w (record { one = cond (is_point d (reg v r) e.lo) (lawful_at d (pos a +ℤ e.lo)) None; several = false }) (record { one = None; several = any_from (addressed d (Index a r) v) 0 (2 ^ 20) }))
       by_test true w =
-          let q = int_is e.lo e.hi w in
+          let q = eq_true e.lo e.hi w in
           let b0 = b.lo in
           let b1 = b.hi in
           let i : at_reg s.regs r ≡ e.lo = omega (arith, ints) in
@@ -216,16 +207,8 @@ module _ {T : Type 0} (d : Domain T) (laws : DomainLaws d) where
     sides_cover : (o q : Option (FactOf T)) (side : Side) (w : Work) (b : Bool) → (b ≡ true → IsSomeAnd (bind (result_number plan.profile s answer w) (λ z. bind (lawful z) (λ n. Some (jumped d laws (is_call w) s n)))) (λ s'. SomeCovers d cells s s' (each q (λ g. performed d plan cells s.p (Jump side w) g)))) → (b ≡ false → SomeCovers d cells s (at_next s) (each o (λ g. outcome d (s.p + 1) g g (all_same cells)))) → IsSomeAnd (cond b (bind (result_number plan.profile s answer w) (λ z. bind (lawful z) (λ n. Some (jumped d laws (is_call w) s n)))) (Some (at_next s))) (λ s'. SomeCovers d cells s s' (each o (λ g. outcome d (s.p + 1) g g (all_same cells)) ++ each q (λ g. performed d plan cells s.p (Jump side w) g)))
     sides_cover o q side w b h k =
         by_flag (λ s'. SomeCovers d cells s s' (each o (λ g. outcome d (s.p + 1) g g (all_same cells)) ++ each q (λ g. performed d plan cells s.p (Jump side w) g))) b _ _
-        (λ t. some_more _ _ (bind (result_number plan.profile s answer w) (λ z. bind (lawful z) (λ n. Some (jumped d laws (is_call w) s n)))) (h t) (λ s' i. in_second d laws cells s s' (each o (λ g. outcome d (s.p + 1) g g (all_same cells))) (each q (λ g. performed d plan cells s.p (Jump side w) g)) i))
+        (λ t. some_some _ _ (bind (result_number plan.profile s answer w) (λ z. bind (lawful z) (λ n. Some (jumped d laws (is_call w) s n)))) (h t) (λ s' i. in_second d laws cells s s' (each o (λ g. outcome d (s.p + 1) g g (all_same cells))) (each q (λ g. performed d plan cells s.p (Jump side w) g)) i))
         (λ t. in_first d laws cells s (at_next s) (each o (λ g. outcome d (s.p + 1) g g (all_same cells))) (each q (λ g. performed d plan cells s.p (Jump side w) g)) (k t))
-
-    not_is : (b : Bool) → not b ≡ true → b ≡ false
-    not_is true h = absurd (false≢true h)
-    not_is false h = refl
-
-    not_not : (b : Bool) → not b ≡ false → b ≡ true
-    not_not true h = refl
-    not_not false h = absurd (false≢true (sym h))
 
     -- Where C3 to C7 hold, the machine doesn't stop, and some outcome is that of its step.
     pub instruction_covers : (instruction : Instruction) (f : FactOf T) → IsInstruction instruction → IsFairStep plan answer s instruction → Meets d f (env cells s) s.b → ((c : Cond) → instruction_keeps d plan cells s.p instruction c f ≡ true) → IsSomeAnd (perform plan.profile instruction answer s) (λ s'. SomeCovers d cells s s' (instruction_outcomes d plan cells s.p instruction f))
@@ -247,8 +230,8 @@ module _ {T : Type 0} (d : Domain T) (laws : DomainLaws d) where
     instruction_covers (Jump IfNotB w) f i fair m h =
         let kept_of = λ (c : Cond). side_kept plan cells s.p (Jump IfNotB w) c f (live_met d laws f (env cells s) s.b m) (h c) in
         sides_cover (bind (assume d f true) (live d)) (bind (assume d f false) (live d)) IfNotB w (not s.b)
-        (λ t. taken_covers IfNotB w (bind (assume d f false) (live d)) i fair (live_side f cells s false (not_is s.b t) m) (kept_of C3) (kept_of C4) (kept_of C5))
-        (λ t. skip_covers (bind (assume d f true) (live d)) (live_side f cells s true (not_not s.b t) m))
+        (λ t. taken_covers IfNotB w (bind (assume d f false) (live d)) i fair (live_side f cells s false (not-true s.b t) m) (kept_of C3) (kept_of C4) (kept_of C5))
+        (λ t. skip_covers (bind (assume d f true) (live d)) (live_side f cells s true (not-false s.b t) m))
     instruction_covers (Output l p) f i fair m h =
         let kept_of = λ (c : Cond). side_kept plan cells s.p (Output l p) c f (live_met d laws f (env cells s) s.b m) (h c) in
         output_covers plan cells f s answer l p m (kept_of C7)

@@ -1,6 +1,7 @@
 -- The fault is the first condition that fails.
 use Rattle.std.specs.Prelude.{◌≡◌, ℕ, Bool, true, false, List, Option, Some, None}
 use Rattle.std.proofs.Common.{refl}
+use Rattle.std.proofs.lemmas.Option.{same_Some}
 use Rattle.num_domain.specs.Domain.{Domain}
 use Rattle.memory_plan.specs.Plans.{PlanLines}
 use Rattle.flag_relation.specs.Facts.{FactOf}
@@ -8,17 +9,14 @@ use Rattle.abs_step.specs.declared.outcome.Cond.{Cond}
 use Rattle.abs_step.specs.declared.outcome.Cond.TheVariants.{C1, C2, C3, C4, C5, C6, C7}
 use Rattle.abs_step.specs.Conditions.{unless, keeps, fault}
 
-unless_none : (b : Bool) (c : Cond) (o : Option Cond) → unless b c o ≡ None → (b ≡ true) × (o ≡ None)
+pub unless_none : (b : Bool) (c : Cond) (o : Option Cond) → unless b c o ≡ None → (b ≡ true) × (o ≡ None)
 unless_none true c o h = (refl, h)
 unless_none false c o h = absurd (cc)
 
 unless_some : (P : Cond → Bool) (b : Bool) (c c' : Cond) (o : Option Cond) → P c ≡ b → (o ≡ Some c' → P c' ≡ false) → unless b c o ≡ Some c' → P c' ≡ false
 unless_some P true c c' o e f h = f h
-unless_some P false c c' o e f h = by_same c' (some_same c c' h) e
+unless_some P false c c' o e f h = by_same c' (same_Some c c' h) e
   where
-    some_same : (x y : Cond) → Some x ≡ Some y → x ≡ y
-    some_same x y h = cc
-
     by_same : (c' : Cond) → c ≡ c' → P c ≡ false → P c' ≡ false
     by_same c' i e = rw i at e
 

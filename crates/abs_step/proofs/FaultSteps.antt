@@ -20,14 +20,6 @@ unless_not b c o h = ap (λ (t : Bool). cond t o (Some c)) h
 unless_so : (b : Bool) (c : Cond) (o : Option Cond) → b ≡ true → unless b c o ≡ o
 unless_so b c o h = ap (λ (t : Bool). cond t o (Some c)) h
 
-pub not_false : (b : Bool) → not b ≡ false → b ≡ true
-not_false true h = refl
-not_false false h = absurd (cc)
-
-pub not_true : (b : Bool) → not b ≡ true → b ≡ false
-not_true true h = absurd (cc)
-not_true false h = refl
-
 -- the first that fails of C3 to C7
 abbrev rest_of : (Cond → Bool) → Option Cond
 rest_of h = unless (h C3) C3 (unless (h C4) C4 (unless (h C5) C5 (unless (h C6) C6 (unless (h C7) C7 None))))

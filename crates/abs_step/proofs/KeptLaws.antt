@@ -3,7 +3,7 @@ use Rattle.std.specs.Prelude.{◌≡◌, ℕ, ℤ, pos, ◌+ℤ◌, ◌≤ℤ◌
 use Rattle.std.specs.Ordering.{int_eq}
 use Rattle.std.proofs.Common.{refl, arith, sym, subst, ◌∙◌, ⊎_elim}
 use Rattle.std.proofs.lemmas.Int.{ints}
-use Rattle.std.proofs.lemmas.Bool.{and_parts, false≢true, cases_Bool}
+use Rattle.std.proofs.lemmas.Bool.{and_parts, false≢true, cases_Bool, eqb-true}
 use Rattle.viper_word.specs.Words.{IsSigned}
 use Rattle.num_domain.specs.Domain.{Domain, Has}
 use Rattle.num_domain.specs.Laws.{DomainLaws}
@@ -17,11 +17,8 @@ use Rattle.memory_plan.specs.Plans.{range_at}
 use Rattle.abs_step.specs.Results.{ends_within}
 use Rattle.abs_step.specs.Conditions.{in_range}
 use Rattle.abs_step.proofs.Performing.{InRangeOf, IsKeptBy, put_at}
-use Rattle.abs_step.proofs.AddressLaws.{eq_true}
 use Rattle.abs_step.proofs.ResultCover.{within_from}
-
-int_is : (x y : ℤ) → int_eq x y ≡ true → x ≡ y
-int_is x y h = grind (arith, ints)
+use Rattle.viper_word.proofs.Integers.{eq_true}
 
 -- the residue and the low end are of one step; several numbers have a modulus
 pub record IsSpaced (r : NumberRange) : Type 0 where
@@ -44,7 +41,7 @@ module _ {T : Type 0} (d : Domain T) (laws : DomainLaws d) where
       record {
         low = low;
         high = high;
-        step = ⊎_elim (λ (e : int_eq r.lo r.hi ≡ true). let i = int_is r.lo r.hi e in first_on r.modulus r.lo z (omega (arith, ints)))
+        step = ⊎_elim (λ (e : int_eq r.lo r.hi ≡ true). let i = eq_true r.lo r.hi e in first_on r.modulus r.lo z (omega (arith, ints)))
             (λ (e : int_eq r.lo r.hi ≡ false). f.from_low z (laws.spans.all_on_sound w r.modulus r.residue z (f.several e) k (second (int_eq r.lo r.hi) (d.all_on w r.modulus r.residue) e p.1))) (cases_Bool (int_eq r.lo r.hi));
       }
     where
@@ -68,12 +65,12 @@ module _ {T : Type 0} (d : Domain T) (laws : DomainLaws d) where
       not_code c = false≢true (subst (λ (o : Option NumberRange). some_passes (λ r. in_range d w r) o ≡ true) (apart n c) h)
 
       other : (i : ℕ) (b : Bool) → nat_eq n i ≡ b → in_code plan i ≡ true → cond b z (mem i) ≡ mem i
-      other i true e c = absurd (not_code (subst (λ (j : ℕ). in_code plan j ≡ true) (sym (eq_true n i e)) c))
+      other i true e c = absurd (not_code (subst (λ (j : ℕ). in_code plan j ≡ true) (sym (eqb-true n i e)) c))
       other i false e c = refl
 
       stored_in : (r : NumberRange) → range_at plan.«data» n ≡ Some r → InRangeOf r z
       stored_in r e = in_range_has w r z (spaced n r e) (subst (λ (o : Option NumberRange). some_passes (λ r. in_range d w r) o ≡ true) e h) k
 
       by_test : (i : ℕ) (r : NumberRange) → range_at plan.«data» i ≡ Some r → (b : Bool) → nat_eq n i ≡ b → InRangeOf r (cond b z (mem i))
-      by_test i r e true t = stored_in r (subst (λ (j : ℕ). range_at plan.«data» j ≡ Some r) (sym (eq_true n i t)) e)
+      by_test i r e true t = stored_in r (subst (λ (j : ℕ). range_at plan.«data» j ≡ Some r) (sym (eqb-true n i t)) e)
       by_test i r e false t = kept.ranges i r e

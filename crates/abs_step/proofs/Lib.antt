@@ -2,6 +2,8 @@ pub mod Performing
 pub mod AddressLaws
 pub mod PointLaws
 pub mod SearchLaws
+pub mod SpanWalks
+pub mod JoinLaws
 pub mod WriteLaws
 pub mod ResultLaws
 pub mod OutcomeLaws

@@ -1,22 +1,23 @@
 -- What the machine reads and computes, on words and on their signed values.
-use Rattle.std.specs.Prelude.{◌≡◌, ℕ, ◌+◌, ◌%◌, ◌^◌, ◌<◌, ◌==◌, ◌&&◌, ℤ, pos, ◌+ℤ◌, Bool, true, false, not, nat_le, nat_lt, slice_index, unwrap_or, Option, Some, None, IsSomeAnd, if◌then◌else◌}
+use Rattle.std.specs.Prelude.{◌≡◌, ℕ, ◌+◌, ◌%◌, ◌^◌, ◌<◌, ◌==◌, ◌&&◌, ℤ, pos, ◌+ℤ◌, Bool, true, false, not, nat_le, slice_index, unwrap_or, Option, Some, IsSomeAnd, if◌then◌else◌}
 use Rattle.std.proofs.Common.{refl, arith, sym, subst, ap, ◌∙◌, zero, suc}
 use Rattle.std.proofs.lemmas.Int.{ints}
-use Rattle.std.proofs.lemmas.Bool.{false≢true}
+use Rattle.std.proofs.lemmas.Bool.{false≢true, eqb-true, lt-ltb, and_from}
 use Rattle.std.proofs.lemmas.Bool.Decides.{nat_tests}
+use Rattle.std.proofs.lemmas.Option.{same_Some}
 use Rattle.viper_word.specs.Words.{IsWord, signed_value}
 use Rattle.viper_word.specs.Fields.{Fields, AreFields, is_function, is_shift, has_address, is_input}
 use Rattle.viper_word.specs.Machine.{State, IsState, register, address, is_lawful, operand, computed}
 use Rattle.viper_word.specs.declared.profile.Profile.{Profile}
-use Rattle.viper_word.specs.Options.{bind}
 use Rattle.viper_decode.specs.Instructions.{source_of, place_of, operand_of, function_of, shift_of, work_of}
 use Rattle.abs_step.proofs.Performing.{Numbers, numbers_of, lawful, place_number, source_number, operand_number, function_number, moved, result_number, function_bit, shift_bit, bit_after}
 use Rattle.viper_decode.specs.declared.instructions.Operand.TheVariants.{Literal, Memory, Peripheral}
 use Rattle.viper_decode.specs.declared.instructions.Work.{Work}
 use Rattle.viper_decode.specs.declared.instructions.Work.TheVariants.{Apply, Move}
 use Rattle.abs_step.proofs.LawfulAddress.{address_is}
-use Rattle.abs_step.proofs.AddressLaws.{eq_true}
 use Rattle.abs_step.proofs.FunctionSteps.{GivesBoth, computed_gives, shift_gives}
+use Rattle.abs_step.proofs.SearchLaws.{and_not}
+use Rattle.viper_word.proofs.Options.{bind_was}
 
 -- the state has these numbers, and is one
 pub record Represents (u : State) (t : Numbers) : Type 0 where
@@ -27,31 +28,11 @@ pub record Represents (u : State) (t : Numbers) : Type 0 where
   pub b : u.b ≡ t.b
   pub p : u.p ≡ t.p
 
-pub some_is : {A : Type 0} (x y : A) → Some x ≡ Some y → x ≡ y
-some_is x y h = cc
-
--- what was bound was there
-pub record WasBound {A B : Type 0} (o : Option A) (f : A → Option B) (y : B) : Type 0 where
-  pub first : A
-  pub is : o ≡ Some first
-  pub gives : f first ≡ Some y
-
-pub bind_was : {A B : Type 0} (o : Option A) (f : A → Option B) (y : B) → bind o f ≡ Some y → WasBound o f y
-bind_was None f y h = absurd (cc)
-bind_was (Some x) f y h = record { first = x; is = refl; gives = h }
-
 pub small_signed : (n : ℕ) → n < 2 ^ 31 → signed_value n ≡ pos n
 small_signed n h = omega (arith, ints)
 
-pub nat_lt_from : (m n : ℕ) → m < n → nat_lt m n ≡ true
-nat_lt_from m n h = grind (arith, nat_tests)
-
 nat_le_false : (m n : ℕ) → nat_le m n ≡ false → n < m
 nat_le_false m n h = grind (arith, nat_tests)
-
-pub test_none : (a b : Bool) → b ≡ true → (a && not b) ≡ false
-test_none true b h = ap not h
-test_none false b h = refl
 
 -- ---- what an instruction reads
 
@@ -99,7 +80,7 @@ pub place_is : (i : Fields) (s : State) (n : ℕ) → IsState s → AreFields i 
 place_is i s n w f h = place_at i.m i s n f.m w f.field h
 
 pub lawful_test : (a n : ℕ) → (a ≡ n) × (n < 2 ^ 20) → is_lawful a ≡ true
-lawful_test a n h = let e = h.0 in let l = h.1 in nat_lt_from a (2 ^ 20) (omega arith)
+lawful_test a n h = let e = h.0 in let l = h.1 in lt-ltb a (2 ^ 20) (omega arith)
 
 -- the operand: whether M is 0, and whether it is a peripheral's answer, as b and c
 pub record OperatesAt (i : Fields) (s : State) (answer : ℕ) (z : ℤ) (b c : Bool) : Type 0 where
@@ -115,19 +96,19 @@ unfolding operand_of operand_number
 operand_is i s answer z w f g h = by_mode (i.m == 0) (is_input i) h
   where
     by_mode : (b c : Bool) → operand_number (numbers_of s) (signed_value answer) (if b then Literal i.field else if c then Peripheral (place_of i) else Memory (place_of i)) ≡ Some z → OperatesAt i s answer z b c
-    by_mode true c e = let k = f.field in record { safe = refl; word = omega arith; value = small_signed i.field (omega arith) ∙ some_is (pos i.field) z e }
+    by_mode true c e = let k = f.field in record { safe = refl; word = omega arith; value = small_signed i.field (omega arith) ∙ same_Some (pos i.field) z e }
     by_mode false true e =
         let q = bind_was (lawful (place_number (place_of i) (numbers_of s).regs)) (λ n. Some (signed_value answer)) z e in
         let l = lawful_test (address i s) q.first (place_is i s q.first w f q.is) in
-        record { safe = test_none (not false && not (is_shift i)) (is_lawful (address i s)) l; word = g; value = some_is (signed_value answer) z q.gives }
+        record { safe = and_not (not false && not (is_shift i)) (is_lawful (address i s)) l; word = g; value = same_Some (signed_value answer) z q.gives }
     by_mode false false e =
         let q = bind_was (lawful (place_number (place_of i) (numbers_of s).regs)) (λ n. Some (signed_value (slice_index s.memory n))) z e in
         let k = place_is i s q.first w f q.is in
         let l = lawful_test (address i s) q.first k in
         record {
-          safe = test_none (not false && not (is_shift i)) (is_lawful (address i s)) l;
+          safe = and_not (not false && not (is_shift i)) (is_lawful (address i s)) l;
           word = w.memory (address i s);
-          value = ap (λ (n : ℕ). signed_value (slice_index s.memory n)) k.0 ∙ some_is (signed_value (slice_index s.memory q.first)) z q.gives;
+          value = ap (λ (n : ℕ). signed_value (slice_index s.memory n)) k.0 ∙ same_Some (signed_value (slice_index s.memory q.first)) z q.gives;
         }
 
 -- ---- what it computes
@@ -154,13 +135,8 @@ work_is pr i s answer z w f g is l h = record { safe = by_safe (i.f == 12) refl 
     no_address false true e = refl
     no_address x false e = absurd (false≢true e)
 
-    is_it : (x y : Bool) → x ≡ true → y ≡ true → (x && y) ≡ true
-    is_it true true e k = refl
-    is_it true false e k = absurd (false≢true k)
-    is_it false y e k = absurd (false≢true e)
-
     by_safe : (b : Bool) → (i.f == 12) ≡ b → result_number pr N (signed_value answer) (work b) ≡ Some z → (has_address i && not (is_lawful (address i s))) ≡ false
-    by_safe true e k = no_address (not (i.m == 0)) (is_shift i) (is_it (is_function i) (i.f == 12) is e)
+    by_safe true e k = no_address (not (i.m == 0)) (is_shift i) (and_from (is_function i) (i.f == 12) is e)
     by_safe false e k =
         let q = bind_was (operand_number N (signed_value answer) (operand_of i)) (λ m. function_number pr (function_of i.f) (source_number N (source_of i.r)) m) z k in
         (operand_is i s answer q.first w f g q.is).safe
@@ -169,7 +145,7 @@ work_is pr i s answer z w f g is l h = record { safe = by_safe (i.f == 12) refl 
     by_shift true e k =
         let r = source_is s i.r w f.r in
         subst (λ (x : ℤ). IsSomeAnd (computed pr i (register s i.r) (operand i s answer) s.b) (λ e. GivesBoth e z (shift_bit pr (shift_of i.m) x s.b))) (sym r)
-        (shift_gives pr i (register s i.r) (operand i s answer) s.b z (register_word s i.r w f.r) f.m (eq_true i.f 12 e) (subst (λ (x : ℤ). moved (shift_of i.m) x s.b ≡ Some z) r k))
+        (shift_gives pr i (register s i.r) (operand i s answer) s.b z (register_word s i.r w f.r) f.m (eqb-true i.f 12 e) (subst (λ (x : ℤ). moved (shift_of i.m) x s.b ≡ Some z) r k))
     by_shift false e k =
         let q = bind_was (operand_number N (signed_value answer) (operand_of i)) (λ m. function_number pr (function_of i.f) (source_number N (source_of i.r)) m) z k in
         let o = operand_is i s answer q.first w f g q.is in

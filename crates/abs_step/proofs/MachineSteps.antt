@@ -3,8 +3,9 @@ use Rattle.std.specs.Prelude.{◌≡◌, ℕ, ◌+◌, ◌%◌, ◌^◌, ◌<◌
 use Rattle.std.proofs.Common.{refl, arith, sym, subst, ap, ◌∙◌, zero, suc, set, get_or, ⊎_elim, inl, inr}
 use Rattle.std.proofs.Math.Path.{ap₂}
 use Rattle.std.proofs.lemmas.List.{get_or-set_same, get_or-set_other, length-set}
-use Rattle.std.proofs.lemmas.Bool.{or_parts, false≢true, cases_Bool}
+use Rattle.std.proofs.lemmas.Bool.{or_parts, false≢true, cases_Bool, eqb-true, not-false, eq-eqb}
 use Rattle.std.proofs.lemmas.Bool.Decides.{nat_tests}
+use Rattle.std.proofs.lemmas.Option.{same_Some}
 use Rattle.viper_word.specs.Words.{IsWord, signed_value}
 use Rattle.viper_word.specs.Fields.{Fields, AreFields, is_illegal, is_function, is_jump, is_to_register, has_address, may_jump}
 use Rattle.viper_word.specs.Machine.{State, IsState, register, address, is_lawful, operand, Computed, computed, kind_of, compared, is_skipped, written, finished, performed, executed}
@@ -21,9 +22,10 @@ use Rattle.abs_step.specs.Results.{is_call}
 use Rattle.abs_step.proofs.Performing.{Numbers, numbers_of, lawful, place_number, source_number, operand_number, result_number, function_bit, bit_after, at_next, put_at, perform}
 use Rattle.viper_decode.specs.declared.instructions.Side.TheVariants.{Always, IfB, IfNotB}
 use Rattle.viper_decode.specs.declared.instructions.Instruction.TheVariants.{Compare, Assign, Jump, Output, Store}
-use Rattle.abs_step.proofs.AddressLaws.{eq_true}
 use Rattle.abs_step.proofs.FunctionSteps.{GivesBoth}
-use Rattle.abs_step.proofs.MachineReads.{Represents, some_is, WasBound, bind_was, small_signed, test_none, register_word, source_is, lawful_word, place_is, lawful_test, Operates, operand_is, work_is}
+use Rattle.abs_step.proofs.MachineReads.{Represents, small_signed, register_word, source_is, lawful_word, place_is, lawful_test, Operates, operand_is, work_is}
+use Rattle.abs_step.proofs.SearchLaws.{and_not}
+use Rattle.viper_word.proofs.Options.{WasBound, bind_was}
 
 -- ---- one instruction
 
@@ -38,13 +40,9 @@ pub record IsLegal (i : Fields) : Type 0 where
   pub register : is_to_register i ≡ true → (i.f == 1) ≡ false
   pub jump : is_jump i ≡ true → may_jump i.f ≡ true
 
-second_false : (x y : Bool) → x ≡ true → (x && y) ≡ false → y ≡ false
+pub second_false : (x y : Bool) → x ≡ true → (x && y) ≡ false → y ≡ false
 second_false true y e h = h
 second_false false y e h = absurd (false≢true e)
-
-not_false : (x : Bool) → not x ≡ false → x ≡ true
-not_false true h = refl
-not_false false h = absurd (false≢true (sym h))
 
 pub legal_is : (i : Fields) → is_illegal i ≡ false → IsLegal i
 unfolding is_illegal
@@ -55,8 +53,26 @@ legal_is i h =
     record {
       small = λ t. second_false (is_function i) (nat_le 13 i.f) t b.0;
       register = λ t. second_false (is_to_register i) (i.f == 1) t c.0;
-      jump = λ t. not_false (may_jump i.f) (second_false (is_jump i) (not (may_jump i.f)) t c.1);
+      jump = λ t. not-false (may_jump i.f) (second_false (is_jump i) (not (may_jump i.f)) t c.1);
     }
+
+-- what holds of each function that a jump may have
+by_jump : (P : ℕ → Type 0) → P 1 → P 3 → P 5 → P 7 → (f : ℕ) → may_jump f ≡ true → P f
+by_jump P a b c d zero h = absurd (false≢true h)
+by_jump P a b c d (suc zero) h = a
+by_jump P a b c d (suc (suc zero)) h = absurd (false≢true h)
+by_jump P a b c d (suc (suc (suc zero))) h = b
+by_jump P a b c d (suc (suc (suc (suc zero)))) h = absurd (false≢true h)
+by_jump P a b c d (suc (suc (suc (suc (suc zero))))) h = c
+by_jump P a b c d (suc (suc (suc (suc (suc (suc zero)))))) h = absurd (false≢true h)
+by_jump P a b c d (suc (suc (suc (suc (suc (suc (suc zero))))))) h = d
+by_jump P a b c d (suc (suc (suc (suc (suc (suc (suc (suc f)))))))) h = absurd (false≢true (sym (none (suc (suc (suc (suc (suc (suc (suc (suc f)))))))) (omega arith)) ∙ h))
+  where
+    none : (f : ℕ) → 7 < f → may_jump f ≡ false
+    none f l = grind (arith, nat_tests)
+
+below : (a b : ℕ) → (a ≡ b) × (b < 2 ^ 20) → a < 2 ^ 20
+below a b p = let e = p.0 in let l = p.1 in omega arith
 
 performed_of : (a b c : Bool) (x y z w : Result State Cause) (P : State → Type 0) → a ≡ false → b ≡ false → c ≡ false → IsOkAnd w P → IsOkAnd (if a then x else if b then y else if c then z else w) P
 performed_of false false false x y z w P e f g h = h
@@ -94,7 +110,7 @@ module _ (pr : Profile) (s : State) (answer : ℕ) (w : IsState s) (n : s.p + 1 
   unfolding perform is_illegal performed compared compares
   compare_is i t f h =
       run_is pr j s answer (λ u. GoesOn s u t) refl refl o.safe
-      (subst (λ (t : Numbers). GoesOn s (record s { b = compared j (register s i.r) (operand j s answer) s.b; p = s.p + 1 }) t) (some_is _ t q.gives)
+      (subst (λ (t : Numbers). GoesOn s (record s { b = compared j (register s i.r) (operand j s answer) s.b; p = s.p + 1 }) t) (same_Some _ t q.gives)
       (record {
         state = record { a = w.a; x = w.x; y = w.y; p = n; count = w.count; memory = w.memory };
         stop = refl;
@@ -122,34 +138,25 @@ module _ (pr : Profile) (s : State) (answer : ℕ) (w : IsState s) (n : s.p + 1 
   output_is i t f e h =
       let q = bind_was (lawful (place_number (place_of i) (numbers_of s).regs)) (λ n. Some (at_next (numbers_of s))) t h in
       let l = lawful_test (address i s) q.first (place_is i s q.first w f q.is) in
-      run_is pr (record i { c = false; d = 6 }) s answer (λ u. GoesOn s u t) e refl (test_none (has_address (record i { c = false; d = 6 })) (is_lawful (address i s)) l)
-      (subst (λ (t : Numbers). GoesOn s (record s { p = s.p + 1 }) t) (some_is _ t q.gives) (on_is s w n))
+      run_is pr (record i { c = false; d = 6 }) s answer (λ u. GoesOn s u t) e refl (and_not (has_address (record i { c = false; d = 6 })) (is_lawful (address i s)) l)
+      (subst (λ (t : Numbers). GoesOn s (record s { p = s.p + 1 }) t) (same_Some _ t q.gives) (on_is s w n))
+
+  inside : (a : ℕ) → a < 2 ^ 20 → a < length s.memory
+  inside a l = let c = w.count in omega arith
 
   put_is : (a z k : ℕ) (b : Bool) → nat_eq a k ≡ b → a < 2 ^ 20 → signed_value (slice_index (slice_set s.memory a z) k) ≡ cond b (signed_value z) (signed_value (slice_index s.memory k))
-  put_is a z k true e l = ap signed_value (ap (λ (m : ℕ). get_or (set s.memory a z) m 0) (sym (eq_true a k e)) ∙ get_or-set_same s.memory a z 0 (inside a l w.count))
-    where
-      inside : (a : ℕ) → a < 2 ^ 20 → length s.memory ≡ 2 ^ 20 → a < length s.memory
-      inside a l c = omega arith
-  put_is a z k false e l = ap signed_value (get_or-set_other s.memory a k z 0 (λ q. false≢true (sym e ∙ same k a q)))
-    where
-      same : (k a : ℕ) → k ≡ a → nat_eq a k ≡ true
-      same k a q = grind (arith, nat_tests)
+  put_is a z k true e l = ap signed_value (ap (λ (m : ℕ). get_or (set s.memory a z) m 0) (sym (eqb-true a k e)) ∙ get_or-set_same s.memory a z 0 (inside a l))
+  put_is a z k false e l = ap signed_value (get_or-set_other s.memory a k z 0 (λ q. false≢true (sym e ∙ eq-eqb a k (sym q))))
 
   put_word : (a z k : ℕ) (b : Bool) → nat_eq a k ≡ b → a < 2 ^ 20 → IsWord z → IsWord (slice_index (slice_set s.memory a z) k)
-  put_word a z k true e l h = subst IsWord (sym (ap (λ (m : ℕ). get_or (set s.memory a z) m 0) (sym (eq_true a k e)) ∙ get_or-set_same s.memory a z 0 (inside a l w.count))) h
-    where
-      inside : (a : ℕ) → a < 2 ^ 20 → length s.memory ≡ 2 ^ 20 → a < length s.memory
-      inside a l c = omega arith
-  put_word a z k false e l h = subst IsWord (sym (get_or-set_other s.memory a k z 0 (λ q. false≢true (sym e ∙ same k a q)))) (w.memory k)
-    where
-      same : (k a : ℕ) → k ≡ a → nat_eq a k ≡ true
-      same k a q = grind (arith, nat_tests)
+  put_word a z k true e l h = subst IsWord (sym (ap (λ (m : ℕ). get_or (set s.memory a z) m 0) (sym (eqb-true a k e)) ∙ get_or-set_same s.memory a z 0 (inside a l))) h
+  put_word a z k false e l h = subst IsWord (sym (get_or-set_other s.memory a k z 0 (λ q. false≢true (sym e ∙ eq-eqb a k (sym q))))) (w.memory k)
 
   store_is : (i : Fields) (t : Numbers) → AreFields i → is_illegal (record i { c = false; d = 7 }) ≡ false → perform pr (Store (source_of i.r) (place_of i)) (signed_value answer) (numbers_of s) ≡ Some t → IsOkAnd (executed pr (record i { c = false; d = 7 }) s answer) (λ u. GoesOn s u t)
   unfolding perform performed place_of
   store_is i t f e h =
-      run_is pr (record i { c = false; d = 7 }) s answer (λ u. GoesOn s u t) e refl (test_none (has_address (record i { c = false; d = 7 })) (is_lawful (address i s)) l)
-      (subst (λ (t : Numbers). GoesOn s after t) (some_is _ t q.gives) (record {
+      run_is pr (record i { c = false; d = 7 }) s answer (λ u. GoesOn s u t) e refl (and_not (has_address (record i { c = false; d = 7 })) (is_lawful (address i s)) l)
+      (subst (λ (t : Numbers). GoesOn s after t) (same_Some _ t q.gives) (record {
         state = record { a = w.a; x = w.x; y = w.y; p = n; count = length-set s.memory (address i s) (register s i.r) ∙ w.count; memory = λ m. put_word (address i s) (register s i.r) m (nat_eq (address i s) m) refl small (register_word s i.r w f.r) };
         stop = refl;
         numbers = record { a = refl; x = refl; y = refl; mem = λ m. stored m; b = refl; p = refl };
@@ -169,9 +176,6 @@ module _ (pr : Profile) (s : State) (answer : ℕ) (w : IsState s) (n : s.p + 1 
 
       small : address i s < 2 ^ 20
       small = below (address i s) q.first k
-        where
-          below : (a b : ℕ) → (a ≡ b) × (b < 2 ^ 20) → a < 2 ^ 20
-          below a b p = let e = p.0 in let l = p.1 in omega arith
 
       stored : (m : ℕ) → signed_value (slice_index (slice_set s.memory (address i s) (register s i.r)) m) ≡ put_at (numbers_of s).mem q.first (source_number (numbers_of s) (source_of i.r)) m
       stored m =
@@ -191,7 +195,7 @@ module _ (pr : Profile) (s : State) (answer : ℕ) (w : IsState s) (n : s.p + 1 
       let v = work_is pr i s answer q.first w f g is ((legal_is i e).small is) q.is in
       run_is pr i s answer (λ u. GoesOn s u t) e k v.safe
       (subst (λ (o : Result State Cause). IsOkAnd o (λ u. GoesOn s u t)) (sym same)
-      (subst (λ (t : Numbers). IsOkAnd (finished i s (computed pr i (register s i.r) (operand i s answer) s.b)) (λ u. GoesOn s u t)) (some_is _ t q.gives)
+      (subst (λ (t : Numbers). IsOkAnd (finished i s (computed pr i (register s i.r) (operand i s answer) s.b)) (λ u. GoesOn s u t)) (same_Some _ t q.gives)
       (finish_of i (computed pr i (register s i.r) (operand i s answer) s.b) q.first (bit_after pr (numbers_of s) (signed_value answer) (work_of i)) _ v.some (λ e g. writes e q.first (bit_after pr (numbers_of s) (signed_value answer) (work_of i)) g))))
 
   no_link : (b : Bool) (k : ℕ) → b ≡ false → (if b then k else s.y) ≡ s.y
@@ -237,39 +241,11 @@ module _ (pr : Profile) (s : State) (answer : ℕ) (w : IsState s) (n : s.p + 1 
   -- B stays in the functions that a jump may have
   jump_bit : (i : Fields) → may_jump i.f ≡ true → bit_after pr (numbers_of s) (signed_value answer) (work_of i) ≡ s.b
   unfolding work_of function_of bit_after function_bit
-  jump_bit i h = by_code i.f h
-    where
-      by_code : (f : ℕ) → may_jump f ≡ true → bit_after pr (numbers_of s) (signed_value answer) (work_of (record i { f = f })) ≡ s.b
-      by_code zero h = absurd (false≢true h)
-      by_code (suc zero) h = refl
-      by_code (suc (suc zero)) h = absurd (false≢true h)
-      by_code (suc (suc (suc zero))) h = refl
-      by_code (suc (suc (suc (suc zero)))) h = absurd (false≢true h)
-      by_code (suc (suc (suc (suc (suc zero))))) h = refl
-      by_code (suc (suc (suc (suc (suc (suc zero)))))) h = absurd (false≢true h)
-      by_code (suc (suc (suc (suc (suc (suc (suc zero))))))) h = refl
-      by_code (suc (suc (suc (suc (suc (suc (suc (suc f)))))))) h = absurd (false≢true (sym (none (suc (suc (suc (suc (suc (suc (suc (suc f)))))))) (omega arith)) ∙ h))
-        where
-          none : (f : ℕ) → 7 < f → may_jump f ≡ false
-          none f l = grind (arith, nat_tests)
+  jump_bit i h = by_jump (λ f. bit_after pr (numbers_of s) (signed_value answer) (work_of (record i { f = f })) ≡ s.b) refl refl refl refl i.f h
 
   jump_call : (i : Fields) → may_jump i.f ≡ true → is_call (work_of i) ≡ (i.f == 1)
   unfolding work_of function_of
-  jump_call i h = by_code i.f h
-    where
-      by_code : (f : ℕ) → may_jump f ≡ true → is_call (work_of (record i { f = f })) ≡ (f == 1)
-      by_code zero h = absurd (false≢true h)
-      by_code (suc zero) h = refl
-      by_code (suc (suc zero)) h = absurd (false≢true h)
-      by_code (suc (suc (suc zero))) h = refl
-      by_code (suc (suc (suc (suc zero)))) h = absurd (false≢true h)
-      by_code (suc (suc (suc (suc (suc zero))))) h = refl
-      by_code (suc (suc (suc (suc (suc (suc zero)))))) h = absurd (false≢true h)
-      by_code (suc (suc (suc (suc (suc (suc (suc zero))))))) h = refl
-      by_code (suc (suc (suc (suc (suc (suc (suc (suc f)))))))) h = absurd (false≢true (sym (none (suc (suc (suc (suc (suc (suc (suc (suc f)))))))) (omega arith)) ∙ h))
-        where
-          none : (f : ℕ) → 7 < f → may_jump f ≡ false
-          none f l = grind (arith, nat_tests)
+  jump_call i h = by_jump (λ f. is_call (work_of (record i { f = f })) ≡ (f == 1)) refl refl refl refl i.f h
 
   -- the link of CALL
   linked_word : (b : Bool) → IsWord (if b then s.p + 1 else s.y)
@@ -314,15 +290,12 @@ module _ (pr : Profile) (s : State) (answer : ℕ) (w : IsState s) (n : s.p + 1 
       (λ e g. let l = lawful_word e.value u.first g.word (subst (λ (z : ℤ). lawful z ≡ Some u.first) (sym g.value) u.is) in
       target_of (is_jump i) (is_lawful e.value) (Err Target) (Ok (written i s e)) (λ u. GoesOn s u t) (lawful_test e.value u.first l)
       (subst (λ (x : State). GoesOn s x t) (sym (writes e))
-      (subst (λ (t : Numbers). GoesOn s (record s { y = if i.f == 1 then s.p + 1 else s.y; b = e.b; p = e.value }) t) (some_is _ t u.gives)
+      (subst (λ (t : Numbers). GoesOn s (record s { y = if i.f == 1 then s.p + 1 else s.y; b = e.b; p = e.value }) t) (same_Some _ t u.gives)
       (record {
         state = record { a = w.a; x = w.x; y = linked_word (i.f == 1); p = below e.value u.first l; count = w.count; memory = w.memory };
         stop = refl;
         numbers = record { a = linked_a (is_call (work_of i)); x = linked_x (is_call (work_of i)); y = ap (λ (b : Bool). signed_value (if b then s.p + 1 else s.y)) (sym calls) ∙ linked_y (is_call (work_of i)); mem = λ m. refl; b = g.bit ∙ stays; p = l.0 };
       }))))))
-    where
-      below : (a b : ℕ) → (a ≡ b) × (b < 2 ^ 20) → a < 2 ^ 20
-      below a b p = let e = p.0 in let l = p.1 in omega arith
 
   cond_true : {S : Type 0} (b : Bool) (x y z : S) → b ≡ true → cond b x y ≡ z → x ≡ z
   cond_true true x y z e h = h
@@ -350,7 +323,7 @@ module _ (pr : Profile) (s : State) (answer : ℕ) (w : IsState s) (n : s.p + 1 
   if_set_is i t f e h =
       ⊎_elim (λ (b : s.b ≡ true). taken_is j t (record { r = f.r; m = f.m; d = omega arith; f = f.f; field = f.field }) e refl refl (skipped_not s.b b) refl (λ e. refl) (cond_true s.b (jump_result j) (Some (at_next (numbers_of s))) (Some t) b h))
       (λ (b : s.b ≡ false). skip_is pr j s answer (λ u. GoesOn s u t) e (skipped_so s.b b)
-      (subst (λ (t : Numbers). GoesOn s (record s { p = s.p + 1 }) t) (some_is _ t (cond_false s.b (jump_result j) (Some (at_next (numbers_of s))) (Some t) b h)) (on_is s w n))) (cases_Bool s.b)
+      (subst (λ (t : Numbers). GoesOn s (record s { p = s.p + 1 }) t) (same_Some _ t (cond_false s.b (jump_result j) (Some (at_next (numbers_of s))) (Some t) b h)) (on_is s w n))) (cases_Bool s.b)
     where
       j : Fields
       j = record i { c = false; d = 4 }
@@ -368,7 +341,7 @@ module _ (pr : Profile) (s : State) (answer : ℕ) (w : IsState s) (n : s.p + 1 
   if_clear_is i t f e h =
       ⊎_elim (λ (b : s.b ≡ false). taken_is j t (record { r = f.r; m = f.m; d = omega arith; f = f.f; field = f.field }) e refl refl (skipped_not s.b b) refl (λ e. refl) (cond_true (not s.b) (jump_result j) (Some (at_next (numbers_of s))) (Some t) (ap not b) h))
       (λ (b : s.b ≡ true). skip_is pr j s answer (λ u. GoesOn s u t) e (skipped_so s.b b)
-      (subst (λ (t : Numbers). GoesOn s (record s { p = s.p + 1 }) t) (some_is _ t (cond_false (not s.b) (jump_result j) (Some (at_next (numbers_of s))) (Some t) (ap not b) h)) (on_is s w n))) (other s.b)
+      (subst (λ (t : Numbers). GoesOn s (record s { p = s.p + 1 }) t) (same_Some _ t (cond_false (not s.b) (jump_result j) (Some (at_next (numbers_of s))) (Some t) (ap not b) h)) (on_is s w n))) (other s.b)
     where
       j : Fields
       j = record i { c = false; d = 5 }

@@ -2,7 +2,7 @@
 use Rattle.std.specs.Prelude.{◌≡◌, ℕ, ℤ, pos, ◌+◌, Bool, true, false, not, cond, nat_eq, List, [], ◌∷◌, ◌++◌, Option, Some, None, IfSome, IsSomeAnd, ◌⊎◌}
 use Rattle.std.specs.List.{flat_map, list_any}
 use Rattle.std.proofs.Common.{refl, zero, suc, sym, subst, ap, ⊎_elim, inl, inr, set}
-use Rattle.std.proofs.lemmas.Bool.{false≢true}
+use Rattle.std.proofs.lemmas.Bool.{false≢true, eqb-true, not-true}
 use Rattle.num_domain.specs.Domain.{Domain, Below}
 use Rattle.num_domain.specs.Laws.{DomainLaws}
 use Rattle.flag_relation.specs.declared.var.Var.TheVariants as var
@@ -27,7 +27,7 @@ use Rattle.abs_step.specs.OutcomeLists.{OutcomeOf, each, is_live, live, outcome}
 use Rattle.abs_step.specs.Stores.{Spot, source_link, store_one, store_one_posts, joined_cells, unlinked, store_several, store_several_posts, stored}
 use Rattle.abs_step.specs.Outcomes.{flag_set}
 use Rattle.abs_step.specs.Laws.{OutcomeBelow, SomeAbove, AllBelow}
-use Rattle.abs_step.proofs.AddressLaws.{hits_grow, found_hits, list_any_grows, eq_true}
+use Rattle.abs_step.proofs.AddressLaws.{hits_grow, found_hits, list_any_grows}
 use Rattle.abs_step.proofs.WriteLaws.{flag_below_equal, link_below_equal, put_cells_below, keep_cells_below, source_link_below, keep_unlinked, unlinked_below, joined_below, joined_above, set_joined}
 use Rattle.abs_step.proofs.ResultLaws.{addressed_grows, source_grows}
 use Rattle.viper_decode.specs.declared.instructions.Source.{Source}
@@ -113,11 +113,7 @@ module _ {T : Type 0} (d : Domain T) where
     -- ---- facts that aren't empty
 
     live_grows : (f g : FactOf T) → BelowFact d f g → is_live d f ≡ true → is_live d g ≡ true
-    live_grows f g h e = ap not ((fact_laws d laws).emptiness.larger f g h (full (is_empty d f) e))
-      where
-        full : (b : Bool) → not b ≡ true → b ≡ false
-        full true e = absurd (false≢true e)
-        full false e = refl
+    live_grows f g h e = ap not ((fact_laws d laws).emptiness.larger f g h (not-true (is_empty d f) e))
 
     pub live_some : (f g : FactOf T) → BelowFact d f g → IfSome (live d f) (λ f'. IsSomeAnd (live d g) (λ g'. BelowFact d f' g'))
     live_some f g h = by_tests (is_live d f) (is_live d g) (live_grows f g h)
@@ -155,7 +151,7 @@ module _ {T : Type 0} (d : Domain T) where
         (put_cells_below d f g (joined_cells d p cells f.cells w) (joined_cells d q cells g.cells w') (hits p cells) (hits q cells) h (joined_below d laws p q cells f.cells g.cells w w' t h.values.cells (source_grows d laws at (values f) (values g) s h.values)) (λ i. hits_grow p q cells i t))
 
     eq_number : (i j : ℕ) (q : ℕ → Bool) → nat_eq i j ≡ true → q i ≡ true → q j ≡ true
-    eq_number i j q e h = subst (λ (k : ℕ). q k ≡ true) (eq_true i j e) h
+    eq_number i j q e h = subst (λ (k : ℕ). q k ≡ true) (eqb-true i j e) h
 
     -- one address below several, of which it is one
     one_several_below : (q : ℕ → Bool) (cells : List ℕ) (at : ℕ) (f g : FactOf T) (s : Source) (o : Option ℕ) → BelowFact d f g → IfSome o (λ i. (hits q cells i ≡ true) × (list_any q cells ≡ true)) → BelowFact d (store_one d at f s o) (store_several d q cells at g s)

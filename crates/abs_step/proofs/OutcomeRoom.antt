@@ -5,7 +5,7 @@ use Rattle.num_domain.specs.Domain.{Domain}
 use Rattle.flag_relation.specs.Values.{Values}
 use Rattle.flag_relation.specs.Facts.{FactOf}
 use Rattle.abs_step.specs.declared.outcome.Post.{Post}
-use Rattle.abs_step.specs.OutcomeLists.{OutcomeOf, each, is_live, outcome}
+use Rattle.abs_step.specs.OutcomeLists.{each, is_live, outcome}
 
 one_where : {U : Type 0} (b : Bool) (u : U) → length (cond b (u ∷ []) []) ≤ 1
 one_where true u = omega (arith)

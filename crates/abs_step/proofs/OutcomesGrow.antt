@@ -7,8 +7,8 @@ use Rattle.std.proofs.lemmas.Bool.{and_parts, false≢true}
 use Rattle.num_domain.specs.Domain.{Domain, Below}
 use Rattle.num_domain.specs.Laws.{DomainLaws}
 use Rattle.viper_word.specs.Options.{bind}
-use Rattle.viper_word.proofs.Options.{bind_mono}
-use Rattle.viper_word.proofs.Integers.{le_true}
+use Rattle.viper_word.proofs.Options.{bind_mono, all_when}
+use Rattle.viper_word.proofs.Integers.{le_true, eq_true, true_eq}
 use Rattle.num_domain.specs.Ends.{Ends, Within, ends, is_point}
 use Rattle.num_domain.proofs.EndsLaws.{ends_grow, points_grow}
 use Rattle.memory_plan.specs.Plans.{PlanLines, in_code}
@@ -40,12 +40,6 @@ use Rattle.viper_decode.specs.declared.instructions.Side.TheVariants.{Always, If
 use Rattle.viper_decode.specs.declared.instructions.Instruction.{Instruction}
 use Rattle.viper_decode.specs.declared.instructions.Instruction.TheVariants.{Compare, Assign, Jump, Output, Store}
 
-int_is : (x y : ℤ) → int_eq x y ≡ true → x ≡ y
-int_is x y h = grind (arith, ints)
-
-is_int : (x y : ℤ) → x ≡ y → int_eq x y ≡ true
-is_int x y h = grind (arith, ints)
-
 abbrev no_number : Option ℕ
 no_number = None
 
@@ -62,10 +56,6 @@ module _ {T : Type 0} (d : Domain T) (laws : DomainLaws d) where
           let a = le_true (pos 0) z p.0 in
           let b = le_true z (pos (2 ^ 20 - 1)) p.1 in
           (omega (arith, ints), omega (arith, ints))
-
-  when_all : {A : Type 0} (b : Bool) (o : Option A) (P : A → Type 0) → (b ≡ true → IfSome o P) → IfSome (cond b o None) P
-  when_all true o P h = h refl
-  when_all false o P h = tt
 
   module _ (a : ℕ) (r : Reg) (v v' : Values T) (h : BelowValues d v v') where
     abbrev q : ℕ → Bool
@@ -94,13 +84,13 @@ module _ {T : Type 0} (d : Domain T) (laws : DomainLaws d) where
 
         same_one : int_eq e.lo e.hi ≡ true → int_eq e'.lo e'.hi ≡ true → IfSome (cond (is_point d (reg v r) e.lo) (lawful_at d (pos a +ℤ e.lo)) None) (λ n. (cond (is_point d (reg v' r) e'.lo) (lawful_at d (pos a +ℤ e'.lo)) None ≡ Some n) ⊎ ((false ≡ true) × (q n ≡ true)))
         same_one s s' =
-            let x = int_is e.lo e.hi s in
-            let x' = int_is e'.lo e'.hi s' in
+            let x = eq_true e.lo e.hi s in
+            let x' = eq_true e'.lo e'.hi s' in
             let l = k.lo in
             let u = k.hi in
             let i : e.lo ≡ e'.lo = omega (arith, ints) in
             let value = lawful_at d (pos a +ℤ e.lo) in
-            when_all (is_point d (reg v r) e.lo) value _ (λ t.
+            all_when (is_point d (reg v r) e.lo) value _ (λ t.
             let t' : is_point d (reg v' r) e'.lo ≡ true = points_grow d laws (reg v r) (reg v' r) e'.lo (reg_related (Below d) v v' h r) (subst (λ (z : ℤ). is_point d (reg v r) z ≡ true) i t) in
             rest value (subst (λ (b : Bool). cond b (lawful_at d (pos a +ℤ e'.lo)) None ≡ value) (sym t') (ap (λ (z : ℤ). lawful_at d (pos a +ℤ z)) (sym i))))
           where
@@ -109,7 +99,7 @@ module _ {T : Type 0} (d : Domain T) (laws : DomainLaws d) where
             rest (Some n) j = inl j
 
         in_several : IfSome (cond (is_point d (reg v r) e.lo) (lawful_at d (pos a +ℤ e.lo)) None) (λ n. (no_number ≡ Some n) ⊎ ((any_from q 0 (2 ^ 20) ≡ true) × (q n ≡ true)))
-        in_several = when_all (is_point d (reg v r) e.lo) (lawful_at d (pos a +ℤ e.lo)) _ (λ t. each_n (lawful_at d (pos a +ℤ e.lo)) (lawful_facts (pos a +ℤ e.lo)) t)
+        in_several = all_when (is_point d (reg v r) e.lo) (lawful_at d (pos a +ℤ e.lo)) _ (λ t. each_n (lawful_at d (pos a +ℤ e.lo)) (lawful_facts (pos a +ℤ e.lo)) t)
           where
             each_n : (o : Option ℕ) → IfSome o (λ n. (pos n ≡ pos a +ℤ e.lo) × (n < 2 ^ 20)) → is_point d (reg v r) e.lo ≡ true → IfSome o (λ n. (no_number ≡ Some n) ⊎ ((any_from q 0 (2 ^ 20) ≡ true) × (q n ≡ true)))
             each_n None f t = tt
@@ -122,11 +112,11 @@ module _ {T : Type 0} (d : Domain T) (laws : DomainLaws d) where
         by_tests true s true s' = record { one = same_one s s'; several = λ t. t }
         by_tests true s false s' = record { one = in_several; several = λ t. absurd (false≢true t) }
         by_tests false s true s' =
-            let x' = int_is e'.lo e'.hi s' in
+            let x' = eq_true e'.lo e'.hi s' in
             let l = k.lo in
             let u = k.hi in
             let o = e.order in
-            absurd (false≢true (sym s ∙ is_int e.lo e.hi (omega (arith, ints))))
+            absurd (false≢true (sym s ∙ true_eq e.lo e.hi (omega (arith, ints))))
         by_tests false s false s' = record { one = tt; several = some_grows }
 
   spot_below : (p : Place) (v v' : Values T) → BelowValues d v v' → SpotBelow d laws (addressed d p v') (spot d p v) (spot d p v')

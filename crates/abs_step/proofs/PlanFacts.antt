@@ -3,8 +3,9 @@ use Rattle.std.specs.Prelude.{◌≡◌, ℕ, ◌+◌, ◌-◌, ◌<◌, ◌≤�
 use Rattle.std.specs.List.{All, AllPairs}
 use Rattle.std.proofs.Common.{refl, arith, sym, subst, ap, ⊎_elim, inl, inr, zero, suc}
 use Rattle.std.proofs.Math.Nat.{eq-or-lt_of_le}
-use Rattle.std.proofs.lemmas.Bool.{and_parts, and_from, or_parts, false≢true}
+use Rattle.std.proofs.lemmas.Bool.{and_parts, and_from, or_parts, false≢true, leb-true, le-leb}
 use Rattle.std.proofs.lemmas.Bool.Decides.{nat_tests}
+use Rattle.std.proofs.lemmas.Option.{same_Some}
 use Rattle.viper_word.specs.Words.{signed_value}
 use Rattle.viper_word.specs.Ranges.{NumberRange, IsIn, IsNormal}
 use Rattle.memory_plan.specs.Ranges.{Span}
@@ -27,12 +28,6 @@ pub record PlanFacts (plan : PlanLines) : Type 0 where
   pub fits : (n w : ℕ) (r : NumberRange) → word_at plan.image n ≡ Some w → range_at plan.«data» n ≡ Some r → IsIn r (signed_value w)
   pub inputs_once : (n : ℕ) (s : Span) → Contains plan.inputs s → s.0 ≤ n → n ≤ s.1 → range_at plan.inputs n ≡ Some s.2
 
-le_test : (m n : ℕ) → nat_le m n ≡ true → m ≤ n
-le_test m n h = grind (arith, nat_tests)
-
-le_from : (m n : ℕ) → m ≤ n → nat_le m n ≡ true
-le_from m n h = grind (arith, nat_tests)
-
 eq_test : (m n : ℕ) → (m == n) ≡ true → m ≡ n
 eq_test m n h = grind (arith, nat_tests)
 
@@ -51,15 +46,12 @@ items_map : {X : Type 0} (P Q : X → Type 0) (xs : List X) → ((x : X) → P x
 items_map P Q [] f h = tt
 items_map P Q (x ∷ xs) f h = (f x h.0, items_map P Q xs f h.1)
 
-some_is : {A : Type 0} (x y : A) → Some x ≡ Some y → x ≡ y
-some_is x y h = cc
-
 normal_at : (ss : List Span) (n : ℕ) (r : NumberRange) → AllItems (λ s. IsNormal s.2) ss → range_at ss n ≡ Some r → IsNormal r
 normal_at [] n r h e = absurd (cc)
 normal_at (s ∷ ss) n r h e = by_test (has_address s n) e (λ e. normal_at ss n r h.1 e)
   where
     by_test : (b : Bool) → (if b then Some s.2 else range_at ss n) ≡ Some r → (range_at ss n ≡ Some r → IsNormal r) → IsNormal r
-    by_test true e k = subst IsNormal (some_is s.2 r e) h.0
+    by_test true e k = subst IsNormal (same_Some s.2 r e) h.0
     by_test false e k = k e
 
 words_at : (image : List (ℕ × ℕ)) (at count n : ℕ) → all_words image at count ≡ true → at ≤ n → n < at + count → IsSome (word_at image n)
@@ -77,8 +69,8 @@ code_words image (s ∷ ss) n h e = by_test (nat_le s.0 n && nat_le n s.1) refl 
     by_test : (b : Bool) → (nat_le s.0 n && nat_le n s.1) ≡ b → (b || has_code ss n) ≡ true → (has_code ss n ≡ true → IsSome (word_at image n)) → IsSome (word_at image n)
     by_test true t e k =
         let p = and_parts (nat_le s.0 n) (nat_le n s.1) t in
-        let x = le_test s.0 n p.0 in
-        let y = le_test n s.1 p.1 in
+        let x = leb-true s.0 n p.0 in
+        let y = leb-true n s.1 p.1 in
         words_at image s.0 (s.1 + 1 - s.0) n h.0 x (omega arith)
     by_test false t e k = k e
 
@@ -91,7 +83,7 @@ none_of a b [] n h k l = refl
 none_of a b (s ∷ ss) n h k l = by_test (has_address s n) refl (none_of a b ss n h.1 k l)
   where
     by_test : (t : Bool) → has_address s n ≡ t → range_at ss n ≡ None → (if t then Some s.2 else range_at ss n) ≡ None
-    by_test true e q = let p = and_parts (nat_le s.0 n) (nat_le n s.1) e in absurd (not_both a b s.0 s.1 n h.0 k l (le_test s.0 n p.0) (le_test n s.1 p.1))
+    by_test true e q = let p = and_parts (nat_le s.0 n) (nat_le n s.1) e in absurd (not_both a b s.0 s.1 n h.0 k l (leb-true s.0 n p.0) (leb-true n s.1 p.1))
     by_test false e q = q
 
 code_apart : (code : List (ℕ × ℕ)) (ss : List Span) (n : ℕ) → AllItems (λ s. All (λ t. Apart s.0 s.1 t.0 t.1) ss) code → has_code code n ≡ true → range_at ss n ≡ None
@@ -99,7 +91,7 @@ code_apart [] ss n h e = absurd (false≢true e)
 code_apart (s ∷ code) ss n h e = by_test (nat_le s.0 n && nat_le n s.1) refl e (λ e. code_apart code ss n h.1 e)
   where
     by_test : (b : Bool) → (nat_le s.0 n && nat_le n s.1) ≡ b → (b || has_code code n) ≡ true → (has_code code n ≡ true → range_at ss n ≡ None) → range_at ss n ≡ None
-    by_test true t e k = let p = and_parts (nat_le s.0 n) (nat_le n s.1) t in none_of s.0 s.1 ss n (all_items (λ t. Apart s.0 s.1 t.0 t.1) ss h.0) (le_test s.0 n p.0) (le_test n s.1 p.1)
+    by_test true t e k = let p = and_parts (nat_le s.0 n) (nat_le n s.1) t in none_of s.0 s.1 ss n (all_items (λ t. Apart s.0 s.1 t.0 t.1) ss h.0) (leb-true s.0 n p.0) (leb-true n s.1 p.1)
     by_test false t e k = k e
 
 entry_fits : (s : Span) (image : List (ℕ × ℕ)) (n w : ℕ) → misfits s image ≡ false → word_at image n ≡ Some w → has_address s n ≡ true → range_has s.2 (signed_value w) ≡ true
@@ -118,7 +110,7 @@ entry_fits s (x ∷ image) n w h e a = by_test (x.0 == n) refl e (λ e. entry_fi
     by_test : (b : Bool) → (x.0 == n) ≡ b → (if b then Some x.1 else word_at image n) ≡ Some w → (word_at image n ≡ Some w → range_has s.2 (signed_value w) ≡ true) → range_has s.2 (signed_value w) ≡ true
     by_test true t e k =
         let here = subst (λ (j : ℕ). has_address s j ≡ true) (sym (eq_test x.0 n t)) a in
-        subst (λ (v : ℕ). range_has s.2 (signed_value v) ≡ true) (some_is x.1 w e) (fits (nat_le s.0 x.0) (nat_le x.0 s.1) (range_has s.2 (signed_value x.1)) here p.0)
+        subst (λ (v : ℕ). range_has s.2 (signed_value v) ≡ true) (same_Some x.1 w e) (fits (nat_le s.0 x.0) (nat_le x.0 s.1) (range_has s.2 (signed_value x.1)) here p.0)
     by_test false t e k = k e
 
 data_fits : (ss : List Span) (image : List (ℕ × ℕ)) (n w : ℕ) (r : NumberRange) → AllItems (λ s. misfits s image ≡ false) ss → AllItems (λ s. IsNormal s.2) ss → word_at image n ≡ Some w → range_at ss n ≡ Some r → IsIn r (signed_value w)
@@ -126,7 +118,7 @@ data_fits [] image n w r h m e k = absurd (cc)
 data_fits (s ∷ ss) image n w r h m e k = by_test (has_address s n) refl k (λ k. data_fits ss image n w r h.1 m.1 e k)
   where
     by_test : (b : Bool) → has_address s n ≡ b → (if b then Some s.2 else range_at ss n) ≡ Some r → (range_at ss n ≡ Some r → IsIn r (signed_value w)) → IsIn r (signed_value w)
-    by_test true t k q = subst (λ (x : NumberRange). IsIn x (signed_value w)) (some_is s.2 r k) (test_is_in s.2 (signed_value w) m.0 (entry_fits s image n w h.0 e t))
+    by_test true t k q = subst (λ (x : NumberRange). IsIn x (signed_value w)) (same_Some s.2 r k) (test_is_in s.2 (signed_value w) m.0 (entry_fits s image n w h.0 e t))
     by_test false t k q = q k
 
 once : (ss : List Span) (n : ℕ) (t : Span) → AllPairs (λ s t. Apart s.0 s.1 t.0 t.1) ss → Contains ss t → t.0 ≤ n → n ≤ t.1 → range_at ss n ≡ Some t.2
@@ -135,7 +127,7 @@ once [] n t h c l k = absurd (empty c)
     empty : Contains [] t → ⊥
     empty (k, l, e) = omega arith
 once (s ∷ ss) n t h (zero, l, e) low high =
-    let a = subst (λ (x : Span). has_address x n ≡ true) (sym e) (and_from _ _ (le_from t.0 n low) (le_from n t.1 high)) in
+    let a = subst (λ (x : Span). has_address x n ≡ true) (sym e) (and_from _ _ (le-leb t.0 n low) (le-leb n t.1 high)) in
     subst (λ (b : Bool). (if b then Some s.2 else range_at ss n) ≡ Some t.2) (sym a) (ap (λ (x : Span). Some x.2) e)
 once (s ∷ ss) n t h (suc k, l, e) low high = by_test (has_address s n) refl (once ss n t rest there low high)
   where
@@ -149,7 +141,7 @@ once (s ∷ ss) n t h (suc k, l, e) low high = by_test (has_address s n) refl (o
     far = subst (λ (x : Span). Apart s.0 s.1 x.0 x.1) e (h 0 (suc k) t (omega arith) l)
 
     by_test : (b : Bool) → has_address s n ≡ b → range_at ss n ≡ Some t.2 → (if b then Some s.2 else range_at ss n) ≡ Some t.2
-    by_test true q o = let p = and_parts (nat_le s.0 n) (nat_le n s.1) q in absurd (not_both s.0 s.1 t.0 t.1 n far (le_test s.0 n p.0) (le_test n s.1 p.1) low high)
+    by_test true q o = let p = and_parts (nat_le s.0 n) (nat_le n s.1) q in absurd (not_both s.0 s.1 t.0 t.1 n far (leb-true s.0 n p.0) (leb-true n s.1 p.1) low high)
     by_test false q o = o
 
 pub plan_facts : (plan : PlanLines) → IsWellFormed plan → PlanFacts plan

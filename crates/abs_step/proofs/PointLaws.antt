@@ -1,13 +1,13 @@
 -- The steps of a search for the first address that passes, and of one that leaps over a value's numbers.
-use Rattle.std.specs.Prelude.{◌≡◌, ℕ, ◌+◌, ◌-◌, ◌<◌, ◌≤◌, ℤ, pos, ◌-ℤ◌, ◌+ℤ◌, ◌≤ℤ◌, ◌<ℤ◌, int_le, int_lt, Bool, true, false, ◌&&◌, ◌||◌, cond, Option, Some, None, IfSome, IsSomeAnd}
+use Rattle.std.specs.Prelude.{◌≡◌, ℕ, ◌+◌, ◌-◌, ◌<◌, ◌≤◌, ℤ, pos, ◌-ℤ◌, ◌+ℤ◌, ◌≤ℤ◌, ◌<ℤ◌, int_le, Bool, true, false, ◌&&◌, ◌||◌, cond, Option, Some, None, IfSome, IsSomeAnd}
 use Rattle.std.specs.Ordering.{int_eq}
-use Rattle.std.proofs.Common.{refl, arith, zero, suc, sym, subst, ◌∙◌, ap, to_z, of_z, w64}
+use Rattle.std.proofs.Common.{refl, arith, zero, suc, sym, subst, ◌∙◌, ap}
 use Rattle.std.proofs.Math.Path.{ap₂}
 use Rattle.std.proofs.lemmas.Int.{ints}
-use Rattle.std.proofs.lemmas.Bool.{and_from}
-use Rattle.viper_word.specs.Words.{IsSigned, least_signed, greatest_signed}
+use Rattle.std.proofs.lemmas.Bool.{and_from, and_right}
+use Rattle.viper_word.specs.Words.{least_signed, greatest_signed}
 use Rattle.viper_word.specs.Options.{bind}
-use Rattle.viper_word.proofs.Integers.{le_true, true_le}
+use Rattle.viper_word.proofs.Integers.{le_true, true_le, lt_false}
 use Rattle.num_domain.specs.Domain.{Domain}
 use Rattle.num_domain.specs.Laws.{DomainLaws}
 use Rattle.num_domain.specs.Ends.{Ends, ends_when, ends, is_point, is_between, same_as}
@@ -75,13 +75,6 @@ between_is : (n : ℤ) (o : Option Ends) → is_between n o ≡ between_both n (
 between_is n None = refl
 between_is n (Some e) = refl
 
-false_le : (x y : ℤ) → y <ℤ x → int_le x y ≡ false
-false_le x y h = grind (arith, ints)
-
-and_false : (x y : Bool) → y ≡ false → (x && y) ≡ false
-and_false true y h = h
-and_false false y h = refl
-
 pub int_same : (x : ℤ) → int_eq x x ≡ true
 int_same x = grind (arith, ints)
 
@@ -127,9 +120,6 @@ module _ {T : Type 0} (d : Domain T) where
   pub ends_apart : (v : T) (lo hi : ℤ) → d.least_from v least_signed ≡ Some lo → d.greatest_to v greatest_signed ≡ Some hi → int_le lo hi ≡ false → both (ends d v) ≡ None
   ends_apart v lo hi e f h = ends_both v ∙ ap₂ found_ends e f ∙ ap (λ (b : Bool). cond {A = Option (ℤ × ℤ)} b (Some (lo, hi)) None) h
 
-pub not_less : (x y : ℤ) → int_lt x y ≡ false → y ≤ℤ x
-not_less x y h = grind (arith, ints)
-
 -- ends that lie below the upper bound, where they lie above the lower one
 pub lies_from : (o : Option Ends) (base lo hi l h : ℤ) → Some (l, h) ≡ both o → int_le lo (base +ℤ l) ≡ true → int_le (base +ℤ h) hi ≡ ends_within o base lo hi
 lies_from None base lo hi l h e t = absurd (cc)
@@ -143,79 +133,92 @@ lies_from (Some r) base lo hi l h e t = by_ends r.lo r.hi (ap low_of e) (ap high
 abbrev pub some_ends : ℤ → ℤ → Option (ℤ × ℤ)
 some_ends lo hi = Some (lo, hi)
 
--- a signed number is the same as a machine's
-pub as_word : (z : ℤ) → IsSigned z → to_z w64 (of_z w64 z) ≡ z
-as_word z h = let a = h.low in let b = h.high in omega (arith, ints)
-
 module _ {T : Type 0} (d : Domain T) (laws : DomainLaws d) where
   -- without ends there is no point
-  pub no_ends : (v : T) (n : ℤ) → both (ends d v) ≡ None → is_point d v n ≡ false
+  no_ends : (v : T) (n : ℤ) → both (ends d v) ≡ None → is_point d v n ≡ false
   unfolding is_point
   no_ends v n e = ap (λ (b : Bool). b && same_as n (d.least_from v n)) (between_is n (ends d v) ∙ ap (between_both n) e)
 
   -- nor is there one before the least number from k on
   pub no_point : (v : T) (k j m : ℤ) → k ≤ℤ j → j <ℤ m → d.least_from v k ≡ Some m → is_point d v j ≡ false
   unfolding is_point
-  no_point v k j m h g e = and_false (is_between j (ends d v)) (same_as j (d.least_from v j)) (none_before d laws v k j m h g e)
+  no_point v k j m h g e = and_right (is_between j (ends d v)) (same_as j (d.least_from v j)) (none_before d laws v k j m h g e)
 
   pub no_more : (v : T) (k j : ℤ) → k ≤ℤ j → d.least_from v k ≡ None → is_point d v j ≡ false
   unfolding is_point
-  no_more v k j h e = and_false (is_between j (ends d v)) (same_as j (d.least_from v j)) (none_after d laws v k j h e)
+  no_more v k j h e = and_right (is_between j (ends d v)) (same_as j (d.least_from v j)) (none_after d laws v k j h e)
 
   -- nor beyond the greatest
-  pub no_beyond : (v : T) (j lo hi : ℤ) → both (ends d v) ≡ Some (lo, hi) → hi <ℤ j → is_point d v j ≡ false
+  no_beyond : (v : T) (j lo hi : ℤ) → both (ends d v) ≡ Some (lo, hi) → hi <ℤ j → is_point d v j ≡ false
   unfolding is_point
   no_beyond v j lo hi e h =
-      let f : is_between j (ends d v) ≡ false = between_is j (ends d v) ∙ ap (between_both j) e ∙ and_false (int_le lo j) (int_le j hi) (false_le j hi h) in
+      let f : is_between j (ends d v) ≡ false = between_is j (ends d v) ∙ ap (between_both j) e ∙ and_right (int_le lo j) (int_le j hi) (lt_false j hi h) in
       ap (λ (b : Bool). b && same_as j (d.least_from v j)) f
 
   -- a number that is its own least is a point, up to the greatest
-  pub is_own : (v : T) (j lo hi : ℤ) → both (ends d v) ≡ Some (lo, hi) → j ≤ℤ hi → lo ≤ℤ j → d.least_from v j ≡ Some j → is_point d v j ≡ true
+  is_own : (v : T) (j lo hi : ℤ) → both (ends d v) ≡ Some (lo, hi) → j ≤ℤ hi → lo ≤ℤ j → d.least_from v j ≡ Some j → is_point d v j ≡ true
   unfolding is_point
   is_own v j lo hi e h l f =
       let g : is_between j (ends d v) ≡ true = between_is j (ends d v) ∙ ap (between_both j) e ∙ and_from (int_le lo j) (int_le j hi) (true_le lo j l) (true_le j hi h) in
       let s : same_as j (d.least_from v j) ≡ true = ap (same_as j) f ∙ int_same j in
       and_from (is_between j (ends d v)) (same_as j (d.least_from v j)) g s
 
-  -- the least number of all is at most the least from k on
-  pub low_first : (v : T) (k m lo hi : ℤ) → both (ends d v) ≡ Some (lo, hi) → least_signed ≤ℤ k → d.least_from v k ≡ Some m → lo ≤ℤ m
-  low_first v k m lo hi e h f =
-      let a = laws.spans.least_mono v v k least_signed (laws.order.refl v) h in
-      let b : IfSome (Some m) (λ i. IsSomeAnd (d.least_from v least_signed) (λ i'. i' ≤ℤ i)) = subst (λ (o : Option ℤ). IfSome o (λ i. IsSomeAnd (d.least_from v least_signed) (λ i'. i' ≤ℤ i))) f a in
-      at_low (d.least_from v least_signed) (d.greatest_to v greatest_signed) (sym (ends_both d v) ∙ e) b
+  -- ---- where only the greatest number is asked for
+
+  no_high : (v : T) (j : ℤ) → d.greatest_to v greatest_signed ≡ None → is_point d v j ≡ false
+  no_high v j e = no_ends v j (ends_both d v ∙ ap (found_ends (d.least_from v least_signed)) e ∙ none (d.least_from v least_signed))
     where
-      at_low : (o q : Option ℤ) → found_ends o q ≡ Some (lo, hi) → IsSomeAnd o (λ i. i ≤ℤ m) → lo ≤ℤ m
-      at_low None q g k = absurd k
-      at_low (Some a) None g k = absurd (cc)
-      at_low (Some a) (Some b) g k = by_order a b (int_le a b) g k
-        where
-          by_order : (a b : ℤ) (t : Bool) → cond {A = Option (ℤ × ℤ)} t (Some (a, b)) None ≡ Some (lo, hi) → a ≤ℤ m → lo ≤ℤ m
-          by_order a b true g k = subst (λ (z : ℤ). z ≤ℤ m) (ap (λ (o : Option (ℤ × ℤ)). low_of o) g) k
-          by_order a b false g k = absurd (cc)
+      none : (o : Option ℤ) → found_ends o None ≡ None
+      none None = refl
+      none (Some lo) = refl
+
+  above_high : (v : T) (j hi : ℤ) → d.greatest_to v greatest_signed ≡ Some hi → hi <ℤ j → is_point d v j ≡ false
+  above_high v j hi e h = by_low (d.least_from v least_signed) (ends_both d v ∙ ap (found_ends (d.least_from v least_signed)) e)
+    where
+      by_order : (lo : ℤ) (b : Bool) → both (ends d v) ≡ cond {A = Option (ℤ × ℤ)} b (Some (lo, hi)) None → is_point d v j ≡ false
+      by_order lo true f = no_beyond v j lo hi f h
+      by_order lo false f = no_ends v j f
+
+      by_low : (o : Option ℤ) → both (ends d v) ≡ found_ends o (Some hi) → is_point d v j ≡ false
+      by_low None f = no_ends v j f
+      by_low (Some lo) f = by_order lo (int_le lo hi) f
+
+  -- the least number of all is at most one that is its own least
+  own_point : (v : T) (j hi : ℤ) → d.greatest_to v greatest_signed ≡ Some hi → least_signed ≤ℤ j → j ≤ℤ hi → d.least_from v j ≡ Some j → is_point d v j ≡ true
+  own_point v j hi e l h f =
+      let a = laws.spans.least_mono v v j least_signed (laws.order.refl v) l in
+      let b : IfSome (Some j) (λ i. IsSomeAnd (d.least_from v least_signed) (λ i'. i' ≤ℤ i)) = subst (λ (o : Option ℤ). IfSome o (λ i. IsSomeAnd (d.least_from v least_signed) (λ i'. i' ≤ℤ i))) f a in
+      by_low (d.least_from v least_signed) (ends_both d v ∙ ap (found_ends (d.least_from v least_signed)) e) b
+    where
+      by_low : (o : Option ℤ) → both (ends d v) ≡ found_ends o (Some hi) → IsSomeAnd o (λ i. i ≤ℤ j) → is_point d v j ≡ true
+      by_low None g k = absurd k
+      by_low (Some lo) g k =
+          let order : lo ≤ℤ hi = omega (arith, ints) in
+          is_own v j lo hi (g ∙ ap (λ (b : Bool). cond {A = Option (ℤ × ℤ)} b (Some (lo, hi)) None) (true_le lo hi order)) h k f
 
   -- ---- the search over moved points
 
-  pub walk_no_ends : (v : T) (base at n : ℕ) → both (ends d v) ≡ None → first_from (is_moved_point d v base) at n ≡ None
-  walk_no_ends v base at n e = first_none (is_moved_point d v base) at n (λ k a b. no_ends v (pos k -ℤ pos base) e)
+  pub walk_no_high : (v : T) (base at n : ℕ) → d.greatest_to v greatest_signed ≡ None → first_from (is_moved_point d v base) at n ≡ None
+  walk_no_high v base at n e = first_none (is_moved_point d v base) at n (λ k a b. no_high v (pos k -ℤ pos base) e)
 
   pub walk_none : (v : T) (base at n : ℕ) (i : ℤ) → i ≡ (pos at -ℤ pos base) → d.least_from v i ≡ None → first_from (is_moved_point d v base) at n ≡ None
   walk_none v base at n i s e = first_none (is_moved_point d v base) at n (λ k a b. no_more v i (pos k -ℤ pos base) (omega (arith, ints)) e)
 
-  pub walk_beyond : (v : T) (base at n : ℕ) (i m lo hi : ℤ) → i ≡ (pos at -ℤ pos base) → d.least_from v i ≡ Some m → both (ends d v) ≡ Some (lo, hi) → hi <ℤ m → first_from (is_moved_point d v base) at n ≡ None
-  walk_beyond v base at n i m lo hi s e f h =
+  pub walk_beyond : (v : T) (base at n : ℕ) (i m hi : ℤ) → i ≡ (pos at -ℤ pos base) → d.least_from v i ≡ Some m → d.greatest_to v greatest_signed ≡ Some hi → hi <ℤ m → first_from (is_moved_point d v base) at n ≡ None
+  walk_beyond v base at n i m hi s e f h =
       first_none (is_moved_point d v base) at n (λ k a b. by_side k a (int_le m (pos k -ℤ pos base)) refl)
     where
       by_side : (k : ℕ) → at ≤ k → (t : Bool) → int_le m (pos k -ℤ pos base) ≡ t → is_moved_point d v base k ≡ false
-      by_side k a true g = let w = le_true m (pos k -ℤ pos base) g in no_beyond v (pos k -ℤ pos base) lo hi f (omega (arith, ints))
+      by_side k a true g = let w = le_true m (pos k -ℤ pos base) g in above_high v (pos k -ℤ pos base) hi f (omega (arith, ints))
       by_side k a false g = no_point v i (pos k -ℤ pos base) m (omega (arith, ints)) (grind (arith, ints)) e
 
   pub walk_past : (v : T) (base at to : ℕ) (i m : ℤ) → i ≡ (pos at -ℤ pos base) → d.least_from v i ≡ Some m → (pos to -ℤ pos base) ≤ℤ m → first_from (is_moved_point d v base) at (to - at) ≡ None
   walk_past v base at to i m s e h =
       first_none (is_moved_point d v base) at (to - at) (λ k a b. no_point v i (pos k -ℤ pos base) m (omega (arith, ints)) (omega (arith, ints)) e)
 
-  pub walk_here : (v : T) (base at to : ℕ) (i lo hi : ℤ) → i ≡ (pos at -ℤ pos base) → d.least_from v i ≡ Some i → both (ends d v) ≡ Some (lo, hi) → i ≤ℤ hi → least_signed ≤ℤ i → at < to → first_from (is_moved_point d v base) at (to - at) ≡ Some at
-  walk_here v base at to i lo hi s e f h l g =
-      first_here (is_moved_point d v base) at to g (subst (λ (z : ℤ). is_point d v z ≡ true) s (is_own v i lo hi f h (low_first v i i lo hi f l e) e))
+  pub walk_here : (v : T) (base at to : ℕ) (i hi : ℤ) → i ≡ (pos at -ℤ pos base) → d.least_from v i ≡ Some i → d.greatest_to v greatest_signed ≡ Some hi → i ≤ℤ hi → least_signed ≤ℤ i → at < to → first_from (is_moved_point d v base) at (to - at) ≡ Some at
+  walk_here v base at to i hi s e f h l g =
+      first_here (is_moved_point d v base) at to g (subst (λ (z : ℤ). is_point d v z ≡ true) s (own_point v i hi f l h e))
 
   pub walk_on : (v : T) (base at at' to : ℕ) (i m : ℤ) → i ≡ (pos at -ℤ pos base) → d.least_from v i ≡ Some m → m ≡ (pos at' -ℤ pos base) → at ≤ at' → at' ≤ to → first_from (is_moved_point d v base) at (to - at) ≡ first_from (is_moved_point d v base) at' (to - at')
   walk_on v base at at' to i m s e s' h h' =

@@ -1,21 +1,22 @@
 -- Operands and results have the machine's numbers.
-use Rattle.std.specs.Prelude.{◌≡◌, ℕ, ◌+◌, ◌-◌, ◌^◌, ◌<◌, ◌≤◌, ℤ, pos, neg_ℤ, nat_abs, ◌+ℤ◌, ◌-ℤ◌, ◌≤ℤ◌, ◌<ℤ◌, int_le, int_lt, Bool, true, false, not, ◌&&◌, ◌||◌, cond, nat_eq, nat_le, nat_lt, List, [], ◌∷◌, map, Option, Some, None, IsSome, IsSomeAnd, ◌⊎◌, bit_and, bit_or, bit_xor}
+use Rattle.std.specs.Prelude.{◌≡◌, ℕ, ◌+◌, ◌-◌, ◌^◌, ◌<◌, ◌≤◌, ℤ, pos, neg_ℤ, nat_abs, ◌+ℤ◌, ◌-ℤ◌, ◌≤ℤ◌, ◌<ℤ◌, int_le, Bool, true, false, not, ◌&&◌, ◌||◌, cond, nat_eq, nat_le, nat_lt, List, [], ◌∷◌, map, Option, Some, None, IsSome, IsSomeAnd, ◌⊎◌, bit_and, bit_or, bit_xor}
 use Rattle.std.specs.Ordering.{int_eq}
-use Rattle.std.specs.Int.{w32, cast_signed, cast_unsigned}
+use Rattle.std.specs.Int.{w32, cast_unsigned}
 use Rattle.std.specs.List.{list_any}
 use Rattle.std.proofs.Common.{refl, arith, sym, subst, ◌∙◌, ⊎_elim, inl, inr, suc, zero}
 use Rattle.std.proofs.Math.Nat.{eq-or-lt_of_le}
 use Rattle.std.proofs.lemmas.Int.{ints}
 use Rattle.std.proofs.lemmas.Nat.{and_le_l, xor_lt}
-use Rattle.std.proofs.lemmas.Bool.{and_parts, and_from, false≢true, cases_Bool}
+use Rattle.std.proofs.lemmas.Bool.{and_parts, and_from, false≢true, cases_Bool, eqb-true, or_cases, not_from_false, not-true, leb-true, ltb-true}
 use Rattle.std.proofs.lemmas.Bool.Decides.{nat_tests}
+use Rattle.std.proofs.lemmas.Option.{same_Some}
 use Rattle.viper_word.specs.Words.{IsWord, IsSigned, signed_value, least_signed, greatest_signed}
 use Rattle.viper_word.specs.Signed.{signed_xor, signed_and, signed_nor, signed_and_not}
 use Rattle.viper_word.proofs.SignedLemmas.{wrapped_in_w, unsigned_below, halved_in_w, shifted_left_in_w, shifted_right_in_w}
 use Rattle.num_domain.specs.Domain.{Domain, Has, MayBe}
 use Rattle.num_domain.specs.Laws.{DomainLaws}
 use Rattle.viper_word.specs.Options.{bind}
-use Rattle.viper_word.proofs.Integers.{le_true, true_le, true_is_signed}
+use Rattle.viper_word.proofs.Integers.{le_true, true_le, true_is_signed, less_true}
 use Rattle.num_domain.specs.Ends.{Ends, Between, ends, is_point}
 use Rattle.num_domain.proofs.EndsLaws.{ends_has, point_has}
 use Rattle.viper_word.specs.Ranges.{NumberRange}
@@ -33,7 +34,7 @@ use Rattle.abs_step.specs.Conditions.{sums_within, less_within, twice_within, ab
 use Rattle.abs_step.proofs.Performing.{Numbers, env, lawful, place_number, source_number, operand_number, exactly, function_number, moved, result_number, AllItems, IsRangeOf, InRangeOf, IsPlanOf, IsKeptBy, IsFair}
 use Rattle.viper_word.specs.declared.profile.Profile.{Profile}
 use Rattle.viper_word.specs.declared.profile.Profile.TheVariants as profile
-use Rattle.abs_step.proofs.AddressLaws.{any_from_at, eq_true}
+use Rattle.abs_step.proofs.AddressLaws.{any_from_at}
 use Rattle.viper_decode.specs.declared.instructions.Source.{Source}
 use Rattle.viper_decode.specs.declared.instructions.Source.TheVariants.{Of, AfterP}
 use Rattle.viper_decode.specs.declared.instructions.Place.{Place}
@@ -46,26 +47,10 @@ use Rattle.viper_decode.specs.declared.instructions.Shift.{Shift}
 use Rattle.viper_decode.specs.declared.instructions.Shift.TheVariants as shift
 use Rattle.viper_decode.specs.declared.instructions.Work.{Work}
 use Rattle.viper_decode.specs.declared.instructions.Work.TheVariants.{Apply, Move}
+use Rattle.viper_word.proofs.SignedCode.{word_signed}
+use Rattle.viper_word.proofs.Options.{some_bind_is}
 
 -- ---- tests
-
-pub or_split : (x y : Bool) → (x || y) ≡ true → (x ≡ true) ⊎ (y ≡ true)
-or_split true y h = inl refl
-or_split false y h = inr h
-
-pub not_true : (x : Bool) → x ≡ false → not x ≡ true
-not_true true h = absurd (false≢true (sym h))
-not_true false h = refl
-
-test_true : (x : Bool) → not x ≡ true → x ≡ false
-test_true true h = absurd (false≢true h)
-test_true false h = refl
-
-nat_le_true : (m n : ℕ) → nat_le m n ≡ true → m ≤ n
-nat_le_true m n h = grind (arith, nat_tests)
-
-nat_lt_true : (m n : ℕ) → nat_lt m n ≡ true → m < n
-nat_lt_true m n h = grind (arith, nat_tests)
 
 pub self_eq : (n : ℕ) → nat_eq n n ≡ true
 self_eq n = grind (arith, nat_tests)
@@ -73,7 +58,7 @@ self_eq n = grind (arith, nat_tests)
 pub none_at : (p q : ℕ → Bool) (n : ℕ) → n < 2 ^ 20 → not (any_from (λ k. p k && not (q k)) 0 (2 ^ 20)) ≡ true → p n ≡ true → q n ≡ true
 none_at p q n h k e =
     ⊎_elim (λ (t : q n ≡ true). t)
-    (λ (t : q n ≡ false). absurd (false≢true (sym (test_true (any_from (λ k. p k && not (q k)) 0 (2 ^ 20)) k) ∙ any_from_at (λ k. p k && not (q k)) 0 (2 ^ 20) n (omega arith) (omega arith) (and_from _ _ e (not_true (q n) t))))) (cases_Bool (q n))
+    (λ (t : q n ≡ false). absurd (false≢true (sym (not-true (any_from (λ k. p k && not (q k)) 0 (2 ^ 20)) k) ∙ any_from_at (λ k. p k && not (q k)) 0 (2 ^ 20) n (omega arith) (omega arith) (and_from _ _ e (not_from_false (q n) t))))) (cases_Bool (q n))
 
 pub lawful_some : (z : ℤ) (P : ℕ → Type 0) → pos 0 ≤ℤ z → z ≤ℤ pos (2 ^ 20 - 1) → P (nat_abs z) → IsSomeAnd (lawful z) P
 lawful_some z P h k m = rw (and_from _ _ (true_le (pos 0) z h) (true_le z (pos (2 ^ 20 - 1)) k)) m
@@ -90,24 +75,21 @@ within_from (Some r) base lo hi n h k =
 
 -- ---- results are words'
 
-word_in_w : (n : ℕ) → n < 2 ^ 32 → IsSigned (cast_signed w32 n)
-word_in_w n h = record { low = omega (arith, ints); high = omega (arith, ints) }
-
 xor_in_w : (x y : ℤ) → IsSigned x → IsSigned y → IsSigned (signed_xor x y)
 unfolding signed_xor
-xor_in_w x y h k = word_in_w (bit_xor (cast_unsigned w32 x) (cast_unsigned w32 y)) (xor_lt 32 (cast_unsigned w32 x) (cast_unsigned w32 y) (unsigned_below x h) (unsigned_below y k))
+xor_in_w x y h k = word_signed (bit_xor (cast_unsigned w32 x) (cast_unsigned w32 y)) (xor_lt 32 (cast_unsigned w32 x) (cast_unsigned w32 y) (unsigned_below x h) (unsigned_below y k))
 
 and_in_w : (x y : ℤ) → IsSigned x → IsSigned (signed_and x y)
 unfolding signed_and
-and_in_w x y h = let a = and_le_l (cast_unsigned w32 x) (cast_unsigned w32 y) in let b = unsigned_below x h in word_in_w (bit_and (cast_unsigned w32 x) (cast_unsigned w32 y)) (omega arith)
+and_in_w x y h = let a = and_le_l (cast_unsigned w32 x) (cast_unsigned w32 y) in let b = unsigned_below x h in word_signed (bit_and (cast_unsigned w32 x) (cast_unsigned w32 y)) (omega arith)
 
 nor_in_w : (x y : ℤ) → IsSigned (signed_nor x y)
 unfolding signed_nor
-nor_in_w x y = word_in_w (2 ^ 32 - 1 - bit_or (cast_unsigned w32 x) (cast_unsigned w32 y)) (omega arith)
+nor_in_w x y = word_signed (2 ^ 32 - 1 - bit_or (cast_unsigned w32 x) (cast_unsigned w32 y)) (omega arith)
 
 and_not_in_w : (x y : ℤ) → IsSigned x → IsSigned (signed_and_not x y)
 unfolding signed_and_not
-and_not_in_w x y h = let a = and_le_l (cast_unsigned w32 x) (2 ^ 32 - 1 - cast_unsigned w32 y) in let b = unsigned_below x h in word_in_w (bit_and (cast_unsigned w32 x) (2 ^ 32 - 1 - cast_unsigned w32 y)) (omega arith)
+and_not_in_w x y h = let a = and_le_l (cast_unsigned w32 x) (2 ^ 32 - 1 - cast_unsigned w32 y) in let b = unsigned_below x h in word_signed (bit_and (cast_unsigned w32 x) (2 ^ 32 - 1 - cast_unsigned w32 y)) (omega arith)
 
 pub exactly_some : (z : ℤ) (P : ℤ → Type 0) → IsSigned z → P z → IsSomeAnd (exactly z) P
 exactly_some z P h k = rw (true_is_signed z h) k
@@ -150,11 +132,8 @@ twice_from (Some e) x h k =
 
 above_from : (e : Option Ends) (x : ℤ) → above_least e ≡ true → IsSomeAnd e (λ r. Between r x) → int_eq x least_signed ≡ false
 above_from None x h k = absurd k
-above_from (Some e) x h k = let a = lt_true least_signed e.lo h in let k0 = k.lo in not_eq x least_signed (omega (arith, ints))
+above_from (Some e) x h k = let a = less_true least_signed e.lo h in let k0 = k.lo in not_eq x least_signed (omega (arith, ints))
   where
-    lt_true : (x y : ℤ) → int_lt x y ≡ true → x <ℤ y
-    lt_true x y h = grind (arith, ints)
-
     not_eq : (x y : ℤ) → y <ℤ x → int_eq x y ≡ false
     not_eq x y h = grind (arith, ints)
 
@@ -203,11 +182,8 @@ module _ {T : Type 0} (d : Domain T) (laws : DomainLaws d) where
   cell_given p mem a [] vs h e k = absurd (false≢true k)
   cell_given p mem a (c ∷ cs) [] h e k = absurd h
   cell_given p mem a (c ∷ cs) (v ∷ vs) h e k =
-      ⊎_elim (λ (t : nat_eq c a ≡ true). inl (given_has (p c) v (mem a) (subst (λ (n : ℕ). p n ≡ true) (sym (eq_true c a t)) e) (subst (λ (n : ℕ). Has d v (mem n)) (eq_true c a t) h.0)))
-      (λ (t : is_tracked cs a ≡ true). inr (cell_given p mem a cs vs h.1 e t)) (or_split (nat_eq c a) (is_tracked cs a) k)
-
-  some_same : {S : Type 0} (x y : S) → Some x ≡ Some y → x ≡ y
-  some_same x y h = cc
+      ⊎_elim (λ (t : nat_eq c a ≡ true). inl (given_has (p c) v (mem a) (subst (λ (n : ℕ). p n ≡ true) (sym (eqb-true c a t)) e) (subst (λ (n : ℕ). Has d v (mem n)) (eqb-true c a t) h.0)))
+      (λ (t : is_tracked cs a ≡ true). inr (cell_given p mem a cs vs h.1 e t)) (or_cases (nat_eq c a) (is_tracked cs a) k)
 
   -- a number of the range at an address that passes
   span_given : (p : ℕ → Bool) (a : ℕ) (z : ℤ) (ss : List Span) (r : NumberRange) → AllItems IsRangeOf ss → p a ≡ true → range_at ss a ≡ Some r → InRangeOf r z → OneHas z (span_sources d p ss)
@@ -218,11 +194,11 @@ module _ {T : Type 0} (d : Domain T) (laws : DomainLaws d) where
       by_test : (b : Bool) → has_address s a ≡ b → cond b (Some s.2) (range_at ss a) ≡ Some r → (range_at ss a ≡ Some r → OneHas z (span_sources d p ss)) → OneHas z (given (span_meets d p s) (d.span s.2.lo s.2.hi s.2.modulus) ∷ span_sources d p ss)
       by_test true t i j =
           let q = and_parts (nat_le s.0 a) (nat_le a s.1) t in
-          let x = nat_le_true s.0 a q.0 in
-          let y = nat_le_true a s.1 q.1 in
+          let x = leb-true s.0 a q.0 in
+          let y = leb-true a s.1 q.1 in
           inl (given_has (span_meets d p s) (d.span s.2.lo s.2.hi s.2.modulus) z
           (any_from_at p s.0 ((s.1 + 1) - s.0) a x (omega arith) e)
-          (laws.spans.span_has s.2.lo s.2.hi s.2.modulus z f.0 (subst (λ (w : NumberRange). InRangeOf w z) (sym (some_same s.2 r i)) k)))
+          (laws.spans.span_has s.2.lo s.2.hi s.2.modulus z f.0 (subst (λ (w : NumberRange). InRangeOf w z) (sym (same_Some s.2 r i)) k)))
       by_test false t i j = inr (j i)
 
   word_has : (b : Bool) (o : Option ℕ) (z : ℤ) → b ≡ true → IsSomeAnd o (λ w. (z ≡ signed_value w) × IsWord w) → IsSigned z → IsSomeAnd (word_source d b o) (λ v. Has d v z)
@@ -249,10 +225,10 @@ module _ {T : Type 0} (d : Domain T) (laws : DomainLaws d) where
       let n = (s.1 + 1) - s.0 in
       ⊎_elim (λ (t : (nat_le s.0 a && nat_le a s.1) ≡ true).
       let q = and_parts (nat_le s.0 a) (nat_le a s.1) t in
-      let x = nat_le_true s.0 a q.0 in
-      let y = nat_le_true a s.1 q.1 in
+      let x = leb-true s.0 a q.0 in
+      let y = leb-true a s.1 q.1 in
       code_first plan p (join_all d acc (words_from d plan p s.0 n)) ss z (join_all_has acc (words_from d plan p s.0 n) z (words_has plan p a s.0 n z x (omega arith) e k i)))
-      (λ (t : list_any (λ s. nat_le s.0 a && nat_le a s.1) ss ≡ true). code_has plan p a (join_all d acc (words_from d plan p s.0 n)) ss z t e k i) (or_split (nat_le s.0 a && nat_le a s.1) _ h)
+      (λ (t : list_any (λ s. nat_le s.0 a && nat_le a s.1) ss ≡ true). code_has plan p a (join_all d acc (words_from d plan p s.0 n)) ss z t e k i) (or_cases (nat_le s.0 a && nat_le a s.1) _ h)
 
   -- a word that is read is a member of the join
   read_has : (plan : PlanLines) (p : ℕ → Bool) (mem : ℕ → ℤ) (a : ℕ) (cells : List ℕ) (vs : List T) → IsPlanOf plan → IsKeptBy plan mem → Pairwise (Has d) vs (map mem cells) → p a ≡ true → in_memory plan a ≡ true → IsSomeAnd (read_memory d plan cells p vs) (λ v. Has d v (mem a))
@@ -264,7 +240,7 @@ module _ {T : Type 0} (d : Domain T) (laws : DomainLaws d) where
       (λ (t : in_code plan a ≡ false). code_first plan p s plan.code (mem a)
       (⊎_elim (λ (k : is_tracked cells a ≡ true). join_all_first c (span_sources d (λ n. p n && not (is_tracked cells n)) plan.«data») (mem a) (join_all_has None (cell_sources d p cells vs) (mem a) (cell_given p mem a cells vs h e k)))
       (λ (k : is_tracked cells a ≡ false). join_all_has c (span_sources d (λ n. p n && not (is_tracked cells n)) plan.«data») (mem a)
-      (from_range (λ n. p n && not (is_tracked cells n)) (and_from _ _ e (not_true (is_tracked cells a) k)) (range_at plan.«data» a) refl (range_there plan.«data» a (subst (λ (b : Bool). cond b true (in_spans plan.«data» a) ≡ true) t m)))) (cases_Bool (is_tracked cells a))))
+      (from_range (λ n. p n && not (is_tracked cells n)) (and_from _ _ e (not_from_false (is_tracked cells a) k)) (range_at plan.«data» a) refl (range_there plan.«data» a (subst (λ (b : Bool). cond b true (in_spans plan.«data» a) ≡ true) t m)))) (cases_Bool (is_tracked cells a))))
       (cases_Bool (in_code plan a))
     where
       code_word : (o : Option ℕ) → word_at plan.image a ≡ o → IsSome o → in_code plan a ≡ true → IsSomeAnd o (λ w. (mem a ≡ signed_value w) × IsWord w)
@@ -286,7 +262,7 @@ module _ {T : Type 0} (d : Domain T) (laws : DomainLaws d) where
   unfolding each_address addressed
   place_has (At a) v s cells ok h k =
       let q = and_parts (nat_lt a (2 ^ 20)) (ok a) k in
-      let small = nat_lt_true a (2 ^ 20) q.0 in
+      let small = ltb-true a (2 ^ 20) q.0 in
       lawful_some (pos a) (λ n. PlaceIs (At a) v (pos a) ok n) (omega (arith, ints)) (omega (arith, ints)) (record { number = refl; small = small; passes = q.1; addressed = self_eq a })
   place_has (Index a r) v s cells ok h k =
       let x = at_reg s.regs r in
@@ -301,10 +277,6 @@ module _ {T : Type 0} (d : Domain T) (laws : DomainLaws d) where
       let at : is_point d (reg v r) (pos (nat_abs z) -ℤ pos a) ≡ true = subst (λ (y : ℤ). is_point d (reg v r) y ≡ true) (sym e) (point_has d laws (reg v r) x hx) in
       lawful_some z (λ n. PlaceIs (Index a r) v z ok n) b0 b1
       (record { number = omega (arith, ints); small = small; passes = none_at (λ n. is_point d (reg v r) (pos n -ℤ pos a)) ok (nat_abs z) small q.1 at; addressed = at })
-
-  some_bind_is : {S U : Type 0} (P : S → Type 0) (Q : U → Type 0) (o : Option S) (f : S → Option U) → IsSomeAnd o P → ((x : S) → o ≡ Some x → P x → IsSomeAnd (f x) Q) → IsSomeAnd (bind o f) Q
-  some_bind_is P Q None f h k = absurd h
-  some_bind_is P Q (Some x) f h k = k x refl h
 
   literal_in_w : (n : ℕ) → n < 2 ^ 21 → IsSigned (pos n)
   literal_in_w n h = record { low = omega (arith, ints); high = omega (arith, ints) }

@@ -2,7 +2,7 @@
 use Rattle.std.specs.Prelude.{◌≡◌, ℕ, ◌+◌, ◌-◌, ◌<◌, ◌≤◌, Bool, true, false, not, ◌&&◌, cond, nat_eq, nat_le, [], ◌∷◌, Option, Some, None}
 use Rattle.std.proofs.Common.{refl, arith, zero, suc, sym, subst, ◌∙◌, ap}
 use Rattle.std.proofs.Math.Path.{ap₂}
-use Rattle.std.proofs.lemmas.Bool.{false≢true}
+use Rattle.std.proofs.lemmas.Bool.{false≢true, and_left}
 use Rattle.std.proofs.lemmas.Bool.Decides.{nat_tests}
 use Rattle.memory_plan.specs.Plans.{PlanLines, word_at}
 use Rattle.num_domain.specs.Domain.{Domain}
@@ -14,7 +14,7 @@ use Rattle.abs_step.proofs.PointLaws.{first_none, first_on, first_here, any_is_f
 
 -- ---- the address itself
 
-equal : (n : ℕ) → nat_eq n n ≡ true
+pub equal : (n : ℕ) → nat_eq n n ≡ true
 equal n = grind (arith, nat_tests)
 
 unequal : (a n : ℕ) → (a ≡ n → ⊥) → nat_eq a n ≡ false
@@ -83,11 +83,7 @@ any_none p at n f = any_is_first p at n ∙ ap is_found (first_none p at n f)
 pub any_on : (p : ℕ → Bool) (at at' to : ℕ) → at ≤ at' → at' ≤ to → ((k : ℕ) → at ≤ k → k < at' → p k ≡ false) → any_from p at (to - at) ≡ any_from p at' (to - at')
 any_on p at at' to h h' f = any_is_first p at (to - at) ∙ ap is_found (first_on p at at' to h h' f) ∙ sym (any_is_first p at' (to - at'))
 
-pub and_first : (x y : Bool) → x ≡ false → (x && y) ≡ false
-and_first true y h = absurd (cc)
-and_first false y h = refl
-
-and_not : (x y : Bool) → y ≡ true → (x && not y) ≡ false
+pub and_not : (x y : Bool) → y ≡ true → (x && not y) ≡ false
 and_not true true h = refl
 and_not true false h = absurd (cc)
 and_not false y h = refl
@@ -107,7 +103,7 @@ one_found p a = let n : a + 1 - a ≡ 1 = omega arith in ap (λ (m : ℕ). is_fo
 
 -- no address passes that isn't allowed, where none passes
 pub none_refused : (p a : ℕ → Bool) (at n : ℕ) → first_from p at n ≡ None → any_from (λ k. p k && not (a k)) at n ≡ false
-none_refused p a at n e = any_none (λ k. p k && not (a k)) at n (λ k i j. and_first (p k) (not (a k)) (first_nothing p at n e k i j))
+none_refused p a at n e = any_none (λ k. p k && not (a k)) at n (λ k i j. and_left (p k) (not (a k)) (first_nothing p at n e k i j))
 
 pub one_refused : (p a : ℕ → Bool) (at n m : ℕ) → first_from p at n ≡ Some m → a m ≡ false → any_from (λ k. p k && not (a k)) at n ≡ true
 one_refused p a at n m e h =
@@ -122,7 +118,7 @@ refused_on p a at to m last o e h h' g =
   where
     by_side : (k : ℕ) (b : Bool) → nat_le m k ≡ b → at ≤ k → k < last + 1 → FirstFound p at (to - at) m → (p k && not (a k)) ≡ false
     by_side k true t i j f = let up : m ≤ k = grind (arith, nat_tests) in and_not (p k) (a k) (g k up (omega arith))
-    by_side k false t i j f = let down : k < m = grind (arith, nat_tests) in and_first (p k) (not (a k)) (f.before k i down)
+    by_side k false t i j f = let down : k < m = grind (arith, nat_tests) in and_left (p k) (not (a k)) (f.before k i down)
 
 -- the same of one address
 pub one_allowed : (p a : ℕ → Bool) (at to m n : ℕ) → at ≤ to → first_from p at (to - at) ≡ Some m → n ≡ m → a m ≡ true → any_from (λ k. p k && not (a k)) at (to - at) ≡ any_from (λ k. p k && not (a k)) (n + 1) (to - (n + 1))

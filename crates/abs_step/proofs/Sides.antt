@@ -1,6 +1,6 @@
 -- The outcomes of both sides of an instruction, from what is made of each.
 use Rattle.std.specs.Prelude.{◌≡◌, ℕ, ◌+◌, ◌≤◌, Bool, true, false, not, cond, List, [], ◌++◌, length, Option, Some, None}
-use Rattle.std.proofs.Common.{refl, sym, ◌∙◌, ap, append-nil}
+use Rattle.std.proofs.Common.{sym, ◌∙◌, ap, append-nil}
 use Rattle.num_domain.specs.Domain.{Domain}
 use Rattle.memory_plan.specs.Plans.{PlanLines}
 use Rattle.flag_relation.specs.Facts.{FactOf}
@@ -8,15 +8,11 @@ use Rattle.flag_relation.specs.Emptiness.{is_empty}
 use Rattle.viper_decode.specs.declared.instructions.Instruction.{Instruction}
 use Rattle.abs_step.specs.OutcomeLists.{OutcomeOf, all_same, each, live, outcome}
 use Rattle.abs_step.specs.Outcomes.{taken_side, skipped_side, performed, instruction_outcomes}
-use Rattle.abs_step.specs.Conditions.{side_keeps, c5, unless, outcomes_at}
+use Rattle.abs_step.specs.Conditions.{side_keeps, c5, outcomes_at}
 use Rattle.abs_step.specs.Faults.{side_fault}
-use Rattle.abs_step.specs.declared.outcome.Cond.{Cond}
-use Rattle.abs_step.specs.declared.outcome.Cond.TheVariants.{C3, C4, C5, C6, C7}
+use Rattle.abs_step.specs.declared.outcome.Cond.TheVariants.{C3, C4, C5}
 use Rattle.abs_step.proofs.OutcomeRoom.{one_outcome, one_of_each}
-
-unless_none : (b : Bool) (c : Cond) (o : Option Cond) → unless b c o ≡ None → (b ≡ true) × (o ≡ None)
-unless_none true c o h = (refl, h)
-unless_none false c o h = absurd (cc)
+use Rattle.abs_step.proofs.FaultLaws.{unless_none}
 
 module _ {T : Type 0} (d : Domain T) (plan : PlanLines) (cells : List ℕ) (at : ℕ) where
   -- without a fault the targets of a jump are lawful

@@ -2,8 +2,8 @@
 use Rattle.std.specs.Prelude.{◌≡◌, ℕ, ◌<◌, ◌≤◌, ℤ, Bool, true, false, ◌&&◌, nat_le, List, [], ◌∷◌, map, length, slice_index, Contains, Option, Some, None, IfSome, if◌then◌else◌}
 use Rattle.std.specs.List.{All}
 use Rattle.std.proofs.Common.{refl, arith, sym, subst, suc}
-use Rattle.std.proofs.lemmas.Bool.{and_parts}
-use Rattle.std.proofs.lemmas.Bool.Decides.{nat_tests}
+use Rattle.std.proofs.lemmas.Bool.{and_parts, leb-true}
+use Rattle.std.proofs.lemmas.Option.{same_Some}
 use Rattle.viper_word.specs.Words.{signed_value}
 use Rattle.viper_word.specs.Machine.{State}
 use Rattle.viper_word.specs.Ranges.{NumberRange, IsIn, IsNormal}
@@ -19,10 +19,8 @@ use Rattle.abs_step.proofs.Performing.{numbers_of, env}
 use Rattle.abs_step.specs.States.{IsKept, MeetsFact}
 use Rattle.abs_step.specs.Starts.{start_flag, range_value, cell_value, start_fact}
 use Rattle.abs_step.proofs.PlanFacts.{PlanFacts, plan_facts}
-use Rattle.abs_step.proofs.StateCover.{in_code_of, signed_word}
-
-some_is : {A : Type 0} (x y : A) → Some x ≡ Some y → x ≡ y
-some_is x y h = cc
+use Rattle.abs_step.proofs.StateCover.{in_code_of}
+use Rattle.abs_step.proofs.FunctionSteps.{signed_in_w}
 
 -- the span whose range is found
 record SpanAt (ss : List Span) (n : ℕ) (r : NumberRange) : Type 0 where
@@ -36,16 +34,13 @@ span_at : (ss : List Span) (n : ℕ) (r : NumberRange) → range_at ss n ≡ Som
 span_at [] n r h = absurd (cc)
 span_at (s ∷ ss) n r h = by_test (nat_le s.0 n && nat_le n s.1) refl h (λ e. span_at ss n r e)
   where
-    le_test : (m n : ℕ) → nat_le m n ≡ true → m ≤ n
-    le_test m n h = grind (arith, nat_tests)
-
     further : (n k : ℕ) → k < n → suc k < suc n
     further n k h = omega arith
 
     by_test : (b : Bool) → (nat_le s.0 n && nat_le n s.1) ≡ b → (if b then Some s.2 else range_at ss n) ≡ Some r → (range_at ss n ≡ Some r → SpanAt ss n r) → SpanAt (s ∷ ss) n r
     by_test true t e k =
         let p = and_parts (nat_le s.0 n) (nat_le n s.1) t in
-        record { span = s; listed = (0, omega arith, refl); low = le_test s.0 n p.0; high = le_test n s.1 p.1; range = some_is s.2 r e }
+        record { span = s; listed = (0, omega arith, refl); low = leb-true s.0 n p.0; high = leb-true n s.1 p.1; range = same_Some s.2 r e }
     by_test false t e k =
         let c = k e in
         record { span = c.span; listed = (suc c.listed.0, further (length ss) c.listed.0 c.listed.1, c.listed.2); low = c.low; high = c.high; range = c.range }
@@ -75,9 +70,9 @@ module _ {T : Type 0} (d : Domain T) (laws : DomainLaws d) (plan : PlanLines) (c
   range_has r z n h = laws.spans.span_has r.lo r.hi r.modulus z (normal_range r n) (in_range r z n h)
 
   cell_has : (s : State) (f : PlanFacts plan) (k : IsKept plan s) (h : IsStart plan s) (c : ℕ) (o : Option ℕ) (q : Option NumberRange) → word_at plan.image c ≡ o → range_at plan.«data» c ≡ q → Has d (cell_value d o q) (signed_value (slice_index s.memory c))
-  cell_has s f k h c (Some w) q e i = subst (λ (v : ℕ). Has d (d.constant (signed_value v)) (signed_value (slice_index s.memory c))) (h.image c w e) (laws.order.constant_has (signed_value (slice_index s.memory c)) (signed_word (slice_index s.memory c) (k.words.memory c)))
+  cell_has s f k h c (Some w) q e i = subst (λ (v : ℕ). Has d (d.constant (signed_value v)) (signed_value (slice_index s.memory c))) (h.image c w e) (laws.order.constant_has (signed_value (slice_index s.memory c)) (signed_in_w (slice_index s.memory c) (k.words.memory c)))
   cell_has s f k h c None (Some r) e i = range_has r (signed_value (slice_index s.memory c)) (f.data_normal c r i) (k.ranges c r i)
-  cell_has s f k h c None None e i = laws.order.top_has (signed_value (slice_index s.memory c)) (signed_word (slice_index s.memory c) (k.words.memory c))
+  cell_has s f k h c None None e i = laws.order.top_has (signed_value (slice_index s.memory c)) (signed_in_w (slice_index s.memory c) (k.words.memory c))
 
   cells_have : (s : State) (f : PlanFacts plan) (k : IsKept plan s) (h : IsStart plan s) (cs : List ℕ) → Pairwise (Has d) (map (λ c. cell_value d (word_at plan.image c) (range_at plan.«data» c)) cs) (map (numbers_of s).mem cs)
   cells_have s f k h [] = tt

@@ -4,7 +4,7 @@ use Rattle.std.proofs.Common.{refl, arith, sym, subst, ◌∙◌, ap, inl, inr}
 use Rattle.std.proofs.Math.Path.{ap₂}
 use Rattle.std.proofs.lemmas.Int.{ints}
 use Rattle.std.proofs.lemmas.Bool.{false≢true}
-use Rattle.viper_word.specs.Words.{IsWord, IsSigned, signed_value}
+use Rattle.viper_word.specs.Words.{IsWord, signed_value}
 use Rattle.viper_word.specs.Machine.{State, current, executed, step, ended, next}
 use Rattle.viper_word.specs.Ranges.{NumberRange, OnStep, IsIn, IsSingle, IsSeveral, IsNormal}
 use Rattle.viper_word.proofs.RangeLemmas.{in_range, range_in}
@@ -16,6 +16,7 @@ use Rattle.flag_relation.specs.Facts.{Meets, MeetsValues}
 use Rattle.num_domain.specs.Domain.{Domain}
 use Rattle.num_domain.specs.Laws.{DomainLaws}
 use Rattle.std.specs.Ordering.{int_eq}
+use Rattle.std.proofs.lemmas.Option.{same_Some}
 use Rattle.viper_word.specs.declared.profile.Profile.{Profile}
 use Rattle.viper_word.specs.declared.cause.Cause.{Cause}
 use Rattle.viper_word.specs.declared.cause.Cause.TheVariants.{End}
@@ -31,24 +32,21 @@ use Rattle.abs_step.proofs.Performing.{Numbers, numbers_of, env, lawful, place_n
 use Rattle.abs_step.proofs.ResultCover.{PlaceIs, place_has, source_has}
 use Rattle.abs_step.proofs.KeptLaws.{IsSpaced, store_keeps}
 use Rattle.abs_step.specs.States.{IsKept, SomeOutcome}
-use Rattle.abs_step.proofs.MachineReads.{Represents, bind_was}
+use Rattle.abs_step.proofs.MachineReads.{Represents}
 use Rattle.abs_step.proofs.MachineSteps.{GoesOn}
 use Rattle.abs_step.proofs.PlanFacts.{PlanFacts}
-
-some_is : {A : Type 0} (x y : A) → Some x ≡ Some y → x ≡ y
-some_is x y h = cc
+use Rattle.viper_word.proofs.Integers.{true_eq}
+use Rattle.abs_step.proofs.FunctionSteps.{signed_in_w}
+use Rattle.viper_word.proofs.Options.{bind_was}
 
 -- ---- kept, in words and in signed numbers
-
-pub signed_word : (n : ℕ) → IsWord n → IsSigned (signed_value n)
-signed_word n h = record { low = grind (arith, ints); high = grind (arith, ints) }
 
 code_word_is : (plan : PlanLines) (n w : ℕ) → in_code plan n ≡ true → word_at plan.image n ≡ Some w → code_word plan n ≡ Some w
 code_word_is plan n w c e = subst (λ (b : Bool). (if b then word_at plan.image n else None) ≡ Some w) (sym c) e
 
 pub kept_numbers : (plan : PlanLines) (s : State) → PlanFacts plan → IsKept plan s → IsKeptBy plan (numbers_of s).mem
 kept_numbers plan s f h = record {
-  signed = λ n. signed_word (slice_index s.memory n) (h.words.memory n);
+  signed = λ n. signed_in_w (slice_index s.memory n) (h.words.memory n);
   code = λ n w c e. let k = h.code n w (code_word_is plan n w c e) in (ap signed_value k, subst IsWord k (h.words.memory n));
   ranges = λ n r e. in_range r (signed_value (slice_index s.memory n)) (f.data_normal n r e) (h.ranges n r e);
 }
@@ -125,10 +123,7 @@ pub spaced : (r : NumberRange) → IsNormal r → IsSpaced r
 spaced r n = record { several = λ e. modulus_of n.form e; from_low = λ z h. from n.form z h }
   where
     modulus_of : IsSingle r ⊎ IsSeveral r → int_eq r.lo r.hi ≡ false → pos 1 ≤ℤ r.modulus
-    modulus_of (inl one) e = absurd (false≢true (sym e ∙ same r.lo r.hi one.ends))
-      where
-        same : (x y : ℤ) → x ≡ y → int_eq x y ≡ true
-        same x y e = grind (arith, ints)
+    modulus_of (inl one) e = absurd (false≢true (sym e ∙ true_eq r.lo r.hi one.ends))
     modulus_of (inr many) e = many.modulus
 
     from : IsSingle r ⊎ IsSeveral r → (z : ℤ) → OnStep r.modulus r.residue z → OnStep r.modulus r.lo z
@@ -147,24 +142,24 @@ module _ {T : Type 0} (d : Domain T) (laws : DomainLaws d) (plan : PlanLines) (c
   pub perform_keeps : (facts : PlanFacts plan) (instruction : Instruction) (v : Values T) (s : Numbers) (answer : ℤ) (t : Numbers) → s.p < 2 ^ 20 → IsKeptBy plan s.mem → MeetsValues d v (env cells s) → StoreAllowed instruction v s.p → perform plan.profile instruction answer s ≡ Some t → IsKeptBy plan t.mem
   unfolding perform
   perform_keeps facts (Compare joined k l o) v s answer t at kept m c e =
-      let q = bind_was (operand_number s answer o) _ t e in subst (λ (u : Numbers). IsKeptBy plan u.mem) (some_is _ t q.gives) kept
+      let q = bind_was (operand_number s answer o) _ t e in subst (λ (u : Numbers). IsKeptBy plan u.mem) (same_Some _ t q.gives) kept
   perform_keeps facts (Assign r w) v s answer t at kept m c e =
-      let q = bind_was (result_number plan.profile s answer w) _ t e in subst (λ (u : Numbers). IsKeptBy plan u.mem) (some_is _ t q.gives) kept
+      let q = bind_was (result_number plan.profile s answer w) _ t e in subst (λ (u : Numbers). IsKeptBy plan u.mem) (same_Some _ t q.gives) kept
   perform_keeps facts (Jump side w) v s answer t at kept m c e = by_side (is_taken side s.b) e
     where
       by_side : (b : Bool) → cond b (bind (result_number plan.profile s answer w) (λ z. bind (lawful z) (λ n. Some (record { regs = cond (is_call w) (set_reg s.regs Y (pos (s.p + 1))) s.regs; mem = s.mem; b = s.b; p = n })))) (Some (at_next s)) ≡ Some t → IsKeptBy plan t.mem
       by_side true e =
           let q = bind_was (result_number plan.profile s answer w) _ t e in
           let u = bind_was (lawful q.first) _ t q.gives in
-          subst (λ (u : Numbers). IsKeptBy plan u.mem) (some_is _ t u.gives) kept
-      by_side false e = subst (λ (u : Numbers). IsKeptBy plan u.mem) (some_is _ t e) kept
+          subst (λ (u : Numbers). IsKeptBy plan u.mem) (same_Some _ t u.gives) kept
+      by_side false e = subst (λ (u : Numbers). IsKeptBy plan u.mem) (same_Some _ t e) kept
   perform_keeps facts (Output l p) v s answer t at kept m c e =
-      let q = bind_was (lawful (place_number p s.regs)) _ t e in subst (λ (u : Numbers). IsKeptBy plan u.mem) (some_is _ t q.gives) kept
+      let q = bind_was (lawful (place_number p s.regs)) _ t e in subst (λ (u : Numbers). IsKeptBy plan u.mem) (same_Some _ t q.gives) kept
   perform_keeps facts (Store l p) v s answer t at kept m c e =
       let q = bind_was (lawful (place_number p s.regs)) _ t e in
       let ok : ℕ → Bool = λ n. passes_at plan.«data» (λ r. is_in_range d (source_value d s.p v l) r) n in
       let h = is_there (lawful (place_number p s.regs)) (λ n. PlaceIs d laws p v (place_number p s.regs) ok n) (place_has d laws p v s cells ok m c) in
-      let same : h.value ≡ q.first = some_is h.value q.first (sym h.is ∙ q.is) in
-      subst (λ (u : Numbers). IsKeptBy plan u.mem) (some_is _ t q.gives)
+      let same : h.value ≡ q.first = same_Some h.value q.first (sym h.is ∙ q.is) in
+      subst (λ (u : Numbers). IsKeptBy plan u.mem) (same_Some _ t q.gives)
       (store_keeps d laws plan s.mem q.first (source_value d s.p v l) (source_number s l) kept (facts.apart) (λ n r e. spaced r (facts.data_normal n r e))
       (subst (λ (n : ℕ). ok n ≡ true) same h.holds.passes) (source_has d laws v s cells l at m))

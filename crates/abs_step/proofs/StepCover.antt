@@ -5,7 +5,8 @@ use Rattle.std.proofs.Common.{refl, arith, sym, subst, ◌∙◌, ap, ⊎_elim, 
 use Rattle.std.proofs.Math.Path.{ap₂}
 use Rattle.std.proofs.Math.Nat.{eq-or-lt_of_le}
 use Rattle.std.proofs.lemmas.Int.{ints}
-use Rattle.std.proofs.lemmas.Bool.{and_parts, and_from, or_parts, false≢true}
+use Rattle.std.proofs.lemmas.Bool.{and_parts, and_from, or_parts, false≢true, eqb-true}
+use Rattle.std.proofs.lemmas.Option.{same_Some}
 use Rattle.viper_word.specs.Signed.{signed_compares}
 use Rattle.num_domain.specs.Domain.{Domain, Has}
 use Rattle.num_domain.specs.Laws.{DomainLaws}
@@ -40,7 +41,6 @@ use Rattle.viper_word.specs.declared.profile.Profile.{Profile}
 use Rattle.viper_word.specs.declared.profile.Profile.TheVariants as profile
 use Rattle.abs_step.specs.declared.outcome.Post.{Post}
 use Rattle.abs_step.specs.declared.outcome.Post.TheVariants as post
-use Rattle.abs_step.proofs.AddressLaws.{eq_true}
 use Rattle.abs_step.proofs.ResultCover.{none_at, lawful_some, within_from, IsWork, IsFairWork, source_has, result_has}
 use Rattle.viper_decode.specs.declared.instructions.Source.TheVariants.{Of, AfterP}
 use Rattle.viper_decode.specs.declared.instructions.Place.TheVariants.{At, Index}
@@ -50,13 +50,7 @@ use Rattle.viper_decode.specs.declared.instructions.Shift.TheVariants as shift
 use Rattle.viper_decode.specs.declared.instructions.Work.{Work}
 use Rattle.viper_decode.specs.declared.instructions.Work.TheVariants.{Apply, Move}
 use Rattle.viper_decode.specs.declared.instructions.Instruction.TheVariants.{Assign}
-
-some_same : {S : Type 0} (x y : S) → Some x ≡ Some y → x ≡ y
-some_same x y h = cc
-
-some_bind_is : {S U : Type 0} (P : S → Type 0) (Q : U → Type 0) (o : Option S) (f : S → Option U) → IsSomeAnd o P → ((x : S) → o ≡ Some x → P x → IsSomeAnd (f x) Q) → IsSomeAnd (bind o f) Q
-some_bind_is P Q None f h k = absurd h
-some_bind_is P Q (Some x) f h k = k x refl h
+use Rattle.viper_word.proofs.Options.{some_bind_is}
 
 -- ---- a write to a register
 
@@ -141,11 +135,11 @@ found_at mem [] a = tt
 found_at mem (c ∷ cs) a = by_test (nat_eq c a) refl (find_cell cs a) (found_at mem cs a)
   where
     by_test : (t : Bool) → nat_eq c a ≡ t → (o : Option ℕ) → IfSome o (λ i. (get_or (map mem cs) i (pos 0) ≡ mem a) × (i < length (map mem cs))) → IfSome (cond t (Some 0) (bind o (λ i. Some (suc i)))) (λ i. (get_or (mem c ∷ map mem cs) i (pos 0) ≡ mem a) × (i < length (mem c ∷ map mem cs)))
-    by_test true e o h = (ap mem (eq_true c a e), omega arith)
+    by_test true e o h = (ap mem (eqb-true c a e), omega arith)
     by_test false e None h = tt
     by_test false e (Some i) h = (h.0, let k = h.1 in omega arith)
 
-plus_zero : (x : ℤ) → x ≡ x +ℤ pos 0
+pub plus_zero : (x : ℤ) → x ≡ x +ℤ pos 0
 plus_zero x = omega (arith, ints)
 
 cell_post_holds : (cells : List ℕ) (s : Numbers) (old z y : ℤ) (o : Option ℕ) → IfSome o (λ i. (get_or (map s.mem cells) i (pos 0) ≡ y) × (i < length (map s.mem cells))) → z ≡ y → PostHolds (env cells s) (cell_post o) old z
@@ -153,18 +147,18 @@ cell_post_holds cells s old z y None h k = tt
 cell_post_holds cells s old z y (Some i) h k = k ∙ sym h.0 ∙ plus_zero (get_or (map s.mem cells) i (pos 0))
 
 -- what is read at an address that is given
-at_read : (s : Numbers) (a : ℕ) (m : ℤ) → bind (lawful (pos a)) (λ n. Some (s.mem n)) ≡ Some m → m ≡ s.mem a
+pub at_read : (s : Numbers) (a : ℕ) (m : ℤ) → bind (lawful (pos a)) (λ n. Some (s.mem n)) ≡ Some m → m ≡ s.mem a
 at_read s a m h = by_test (int_le (pos 0) (pos a) && int_le (pos a) (pos (2 ^ 20 - 1))) h
   where
     by_test : (b : Bool) → bind (cond b (Some a) None) (λ n. Some (s.mem n)) ≡ Some m → m ≡ s.mem a
-    by_test true e = sym (some_same (s.mem a) m e)
+    by_test true e = sym (same_Some (s.mem a) m e)
     by_test false e = absurd (cc)
 
 exactly_is : (x z : ℤ) → exactly x ≡ Some z → z ≡ x
 exactly_is x z h = by_test _ h
   where
     by_test : (b : Bool) → cond b (Some x) None ≡ Some z → z ≡ x
-    by_test true e = sym (some_same x z e)
+    by_test true e = sym (same_Some x z e)
     by_test false e = absurd (cc)
 
 bound : {S U : Type 0} (o : Option S) (f : S → Option U) (z : U) → bind o f ≡ Some z → IsSomeAnd o (λ x. f x ≡ Some z)
@@ -173,7 +167,7 @@ bound (Some x) f z h = h
 
 take_is : (s : Numbers) (a : ℕ) (z : ℤ) (o : Option ℤ) → o ≡ bind (lawful (pos a)) (λ n. Some (s.mem n)) → bind o (λ m. Some m) ≡ Some z → z ≡ s.mem a
 take_is s a z None e h = absurd (cc)
-take_is s a z (Some m) e h = sym (some_same m z h) ∙ at_read s a m (sym e)
+take_is s a z (Some m) e h = sym (same_Some m z h) ∙ at_read s a m (sym e)
 
 less_is : (x n z : ℤ) → z ≡ x -ℤ n → z ≡ x +ℤ neg_ℤ n
 less_is x n z h = omega (arith, ints)

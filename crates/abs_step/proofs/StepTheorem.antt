@@ -1,9 +1,10 @@
 -- The step from a state that meets a fact where no condition fails, and the start.
-use Rattle.std.specs.Prelude.{◌≡◌, ℕ, ◌+◌, ◌-◌, ◌^◌, ◌<◌, ◌==◌, Bool, true, false, not, ◌&&◌, ◌||◌, cond, nat_eq, nat_le, nat_lt, List, [], ◌∷◌, slice_index, Option, Some, None, IfSome, IsSomeAnd, if◌then◌else◌}
+use Rattle.std.specs.Prelude.{◌≡◌, ℕ, ◌+◌, ◌-◌, ◌^◌, ◌<◌, ◌==◌, Bool, true, false, not, ◌&&◌, ◌||◌, cond, nat_eq, nat_le, List, [], ◌∷◌, slice_index, Option, Some, None, IfSome, IsSomeAnd, if◌then◌else◌}
 use Rattle.std.specs.List.{list_any}
 use Rattle.std.proofs.Common.{refl, arith, sym, subst, ◌∙◌, ap}
-use Rattle.std.proofs.lemmas.Bool.{and_parts, and_from, false≢true}
+use Rattle.std.proofs.lemmas.Bool.{and_parts, and_from, false≢true, not-true, or_from}
 use Rattle.std.proofs.lemmas.Bool.Decides.{nat_tests}
+use Rattle.std.proofs.lemmas.Option.{same_Some}
 use Rattle.viper_word.specs.Words.{signed_value}
 use Rattle.viper_word.specs.Fields.{Fields, AreFields, fields_of, is_illegal, is_output, is_store, has_address, is_input, may_jump}
 use Rattle.viper_word.specs.Machine.{State, current, address, is_lawful, is_skipped, next, is_performed, wants, operand_address, store_address, output_address}
@@ -39,15 +40,12 @@ use Rattle.abs_step.proofs.StepCover.{live_met}
 use Rattle.abs_step.proofs.Cover.{IsInstruction, IsFairStep, live_side, side_kept}
 use Rattle.abs_step.proofs.CoverAt.{at_instruction, cover}
 use Rattle.abs_step.proofs.FaultLaws.{AllKeep, no_fault_keeps}
-use Rattle.abs_step.proofs.MachineReads.{place_is}
+use Rattle.abs_step.proofs.MachineReads.{place_is, lawful_test}
 use Rattle.abs_step.proofs.MachineSteps.{GoesOn, legal_is, executed_is}
 use Rattle.abs_step.proofs.PlanFacts.{PlanFacts, plan_facts}
 use Rattle.abs_step.proofs.StateCover.{IsThere, is_there, kept_numbers, kept_state, next_is, some_outcome, StoreAllowed, perform_keeps}
 use Rattle.abs_step.proofs.KindCases.{each_kind, fields_are}
 use Rattle.abs_step.proofs.TidyCover.{touched, memory_tidy, input_tidy, given_tidy, output_allowed, store_goes, covers_from}
-
-some_is : {A : Type 0} (x y : A) → Some x ≡ Some y → x ≡ y
-some_is x y h = cc
 
 none_some : {A : Type 0} (x : A) → None ≡ Some x → ⊥
 none_some x h = cc
@@ -60,10 +58,6 @@ pub record WordAt (plan : PlanLines) (at : ℕ) : Type 0 where
   pub last : nat_eq at (2 ^ 20 - 1) ≡ false
   pub legal : is_illegal (fields_of word) ≡ false
   pub instruction : instruction_at plan at ≡ Some (instruction_of (fields_of word))
-
-not_illegal : (b : Bool) → not b ≡ true → b ≡ false
-not_illegal true h = absurd (false≢true h)
-not_illegal false h = refl
 
 word_found : (plan : PlanLines) (at : ℕ) → is_some (word_fields plan at) ≡ true → (c2 : (i : Fields) → word_fields plan at ≡ Some i → is_illegal i ≡ false) → WordAt plan at
 word_found plan at h c2 = by_last (nat_eq at (2 ^ 20 - 1)) refl (code_word plan at) refl
@@ -180,30 +174,19 @@ distinct (c ∷ cs) h = (untracked c cs h, distinct cs (tail c cs h))
     tail c [] h = tt
     tail c (c' ∷ cs) h = h.1
 
+    differ : (c b : ℕ) → b < c → nat_eq c b ≡ false
+    differ c b l = grind (arith, nat_tests)
+
     above : (c : ℕ) (cs : List ℕ) → Ascend (c ∷ cs) → (b : ℕ) → b < c → is_tracked cs b ≡ false
     above c [] h b l = refl
-    above c (c' ∷ cs) h b l = no_test (nat_eq c' b) (is_tracked cs b) (differ c' b (below b c c' l h.0)) (above c' cs h.1 b (below b c c' l h.0))
+    above c (c' ∷ cs) h b l = or_from (nat_eq c' b) (is_tracked cs b) (differ c' b (below b c c' l h.0)) (above c' cs h.1 b (below b c c' l h.0))
       where
         below : (b c c' : ℕ) → b < c → c < c' → b < c'
         below b c c' l m = omega arith
 
-        differ : (c b : ℕ) → b < c → nat_eq c b ≡ false
-        differ c b l = grind (arith, nat_tests)
-
-        no_test : (x y : Bool) → x ≡ false → y ≡ false → (x || y) ≡ false
-        no_test false y e f = f
-        no_test true y e f = absurd (false≢true (sym e))
-
     untracked : (c : ℕ) (cs : List ℕ) → Ascend (c ∷ cs) → is_tracked cs c ≡ false
     untracked c [] h = refl
-    untracked c (c' ∷ cs) h = no_test (nat_eq c' c) (is_tracked cs c) (differ c' c h.0) (above c' cs h.1 c h.0)
-      where
-        differ : (c b : ℕ) → b < c → nat_eq c b ≡ false
-        differ c b l = grind (arith, nat_tests)
-
-        no_test : (x y : Bool) → x ≡ false → y ≡ false → (x || y) ≡ false
-        no_test false y e f = f
-        no_test true y e f = absurd (false≢true (sym e))
+    untracked c (c' ∷ cs) h = or_from (nat_eq c' c) (is_tracked cs c) (differ c' c h.0) (above c' cs h.1 c h.0)
 
 module _ {T : Type 0} (d : Domain T) (laws : DomainLaws d) (plan : PlanLines) (cells : List ℕ) where
   plan_of : PlanFacts plan → IsPlanOf plan
@@ -214,7 +197,7 @@ module _ {T : Type 0} (d : Domain T) (laws : DomainLaws d) (plan : PlanLines) (c
 
   found : (at : ℕ) (f : FactOf T) → AllKeep d plan cells at f → WordAt plan at
   unfolding keeps
-  found at f k = word_found plan at k.c1 (λ i e. not_illegal (is_illegal i) (if_there_is (word_fields plan at) (λ i. not (is_illegal i)) i e k.c2))
+  found at f k = word_found plan at k.c1 (λ i e. not-true (is_illegal i) (if_there_is (word_fields plan at) (λ i. not (is_illegal i)) i e k.c2))
 
   module _ (facts : PlanFacts plan) (apart : Distinct cells) (f : FactOf T) (s : State) (answer : ℕ) (kept : IsKept plan s) (m : Meets d f (env cells (numbers_of s)) s.b) (fair : runs.IsFair plan s answer) (k : AllKeep d plan cells s.p f) (faultless : fault d plan cells s.p f ≡ None) where
     at : WordAt plan s.p
@@ -253,19 +236,13 @@ module _ {T : Type 0} (d : Domain T) (laws : DomainLaws d) (plan : PlanLines) (c
     unfolding wants
     fair_input e j n r l q =
         let p = place_is i s n kept.words fields l in
-        let lawful_is : is_lawful (address i s) ≡ true = small (address i s) n p in
+        let lawful_is : is_lawful (address i s) ≡ true = lawful_test (address i s) n p in
         let a : (has_address i && (is_input i && is_lawful (address i s))) ≡ true = and_from (has_address i) _ (addressed i j) (and_from (is_input i) _ j lawful_is) in
         let w : wants s ≡ Some n = subst (λ (b : Bool). (if b then Some (address i s) else None) ≡ Some n) (sym (and_from (is_performed s) _ (performed e) a)) (ap Some p.0) in
         let v = fair.declared n w (range_covers plan.inputs n r q) in
-        let same : v.span.2 ≡ r = some_is v.span.2 r (sym (facts.inputs_once n v.span v.listed v.low v.high) ∙ q) in
+        let same : v.span.2 ≡ r = same_Some v.span.2 r (sym (facts.inputs_once n v.span v.listed v.low v.high) ∙ q) in
         in_range r (signed_value answer) (facts.input_normal n r q) (subst (λ (x : NumberRange). IsIn x (signed_value answer)) same v.value)
       where
-        small : (a n : ℕ) → (a ≡ n) × (n < 2 ^ 20) → is_lawful a ≡ true
-        small a n p = let e = p.0 in let l = p.1 in lt_from a (2 ^ 20) (omega arith)
-          where
-            lt_from : (m n : ℕ) → m < n → nat_lt m n ≡ true
-            lt_from m n h = grind (arith, nat_tests)
-
         addressed : (i : Fields) → is_input i ≡ true → has_address i ≡ true
         addressed i h = grind (arith, nat_tests)
 
@@ -292,14 +269,10 @@ module _ {T : Type 0} (d : Domain T) (laws : DomainLaws d) (plan : PlanLines) (c
       store = λ e h. m;
     })
       where
-        clear : (b : Bool) → not b ≡ true → b ≡ false
-        clear true h = absurd (false≢true h)
-        clear false h = refl
-
         by_side : (side : Side) → is_taken side s.b ≡ true → IsSomeAnd (taken_side d (Jump side (work_of i)) f) (λ g. Meets d g (env cells (numbers_of s)) s.b)
         by_side Always h = m
         by_side IfB h = live_side d laws f cells (numbers_of s) true h m
-        by_side IfNotB h = live_side d laws f cells (numbers_of s) false (clear s.b h) m
+        by_side IfNotB h = live_side d laws f cells (numbers_of s) false (not-true s.b h) m
 
     of_instruction : (c : Cond) → if_there d (instruction_at plan s.p) (λ w. instruction_keeps d plan cells s.p w c f) ≡ true → IfSome (taken_side d (instruction_of i) f) (λ g. side_keeps d plan cells s.p (instruction_of i) c g ≡ true)
     of_instruction c h = side_kept d laws plan cells s.p (instruction_of i) c f (live_met d laws f (env cells (numbers_of s)) s.b m) (at_instruction d laws plan cells (instruction_at plan s.p) (instruction_of i) (λ w. instruction_keeps d plan cells s.p w c f) instruction h)
@@ -334,7 +307,7 @@ module _ {T : Type 0} (d : Domain T) (laws : DomainLaws d) (plan : PlanLines) (c
           let g = the_side h.unskipped in
           let p = and_parts (not (is_input i)) (not (is_output i) && not (is_store i)) h.such_is in
           let q = and_parts (not (is_output i)) (not (is_store i)) p.1 in
-          memory_tidy d laws plan cells s answer kept.words i fields (values g.value) g.holds.meets.values g.holds.c3 h.addressed (not_illegal (is_input i) p.0) (not_illegal (is_output i) q.0) (not_illegal (is_store i) q.1));
+          memory_tidy d laws plan cells s answer kept.words i fields (values g.value) g.holds.meets.values g.holds.c3 h.addressed (not-true (is_input i) p.0) (not-true (is_output i) q.0) (not-true (is_store i) q.1));
       input = touched is_input s _ (λ h. let g = the_side h.unskipped in input_tidy d laws plan cells s answer kept.words i fields (values g.value) g.holds.meets.values g.holds.c3 h.addressed h.such_is);
       store = touched is_store s _ (λ h.
           let g = the_side h.unskipped in

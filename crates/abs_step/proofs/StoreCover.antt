@@ -1,11 +1,11 @@
 -- The outcomes cover the machine's step: comparisons, outputs, stores, and the whole by instruction.
 use Rattle.flag_relation.specs.declared.atoms.TheConstants.{MOST_ATOMS}
-use Rattle.std.specs.Prelude.{◌≡◌, ◌≢◌, ℕ, ◌+◌, ◌-◌, ◌%◌, ◌^◌, ◌<◌, ℤ, pos, ◌+ℤ◌, int_le, Bool, true, false, ◌&&◌, ◌||◌, cond, nat_eq, nat_lt, List, [], ◌∷◌, ◌++◌, map, length, Option, Some, None, IfSome, IsSomeAnd}
+use Rattle.std.specs.Prelude.{◌≡◌, ◌≢◌, ℕ, ◌+◌, ◌%◌, ◌^◌, ◌<◌, ℤ, pos, ◌+ℤ◌, Bool, true, false, ◌||◌, cond, nat_eq, nat_lt, List, [], ◌∷◌, ◌++◌, map, length, Option, Some, None, IfSome}
 use Rattle.std.specs.List.{list_any}
 use Rattle.std.proofs.Common.{refl, arith, sym, subst, ◌∙◌, ap, suc, zero, set, get_or}
 use Rattle.std.proofs.Math.Path.{ap₂}
 use Rattle.std.proofs.lemmas.Int.{ints}
-use Rattle.std.proofs.lemmas.Bool.{false≢true}
+use Rattle.std.proofs.lemmas.Bool.{false≢true, eqb-true, eq-eqb}
 use Rattle.std.proofs.lemmas.Bool.Decides.{nat_tests}
 use Rattle.viper_word.specs.Words.{signed_value}
 use Rattle.viper_word.specs.Signed.{signed_compares}
@@ -27,9 +27,9 @@ use Rattle.flag_relation.specs.Facts.{FactOf, values, Meets, FlagSays, LinkHolds
 use Rattle.abs_step.specs.Results.{source_value}
 use Rattle.abs_step.specs.declared.outcome.Post.{Post}
 use Rattle.abs_step.specs.declared.outcome.Post.TheVariants as post
-use Rattle.abs_step.proofs.AddressLaws.{eq_true}
 use Rattle.std.proofs.lemmas.List.{get_or-set_other, get_or-set_same}
 use Rattle.std.specs.Prelude.{if◌then◌else◌}
+use Rattle.std.proofs.lemmas.Option.{same_Some}
 use Rattle.flag_relation.proofs.ValueLemmas.{put_related}
 use Rattle.abs_step.specs.Addresses.{find_cell, is_tracked}
 use Rattle.abs_step.specs.Writes.{is_among, drop_link, hits, put_cells}
@@ -38,21 +38,14 @@ use Rattle.abs_step.specs.Origins.{cell_right, word_right, first_of, right_of, a
 use Rattle.abs_step.specs.OutcomeLists.{outcome}
 use Rattle.abs_step.specs.Stores.{source_link, source_post, store_one, store_one_posts, joined_cells, unlinked, store_several, store_several_posts}
 use Rattle.abs_step.specs.Posts.{PostHolds, CellPosts, PostsHold}
-use Rattle.abs_step.proofs.Performing.{Numbers, env, lawful, source_number, operand_number, put_at, IsPlanOf, IsKeptBy, SomeCovers}
+use Rattle.abs_step.proofs.Performing.{Numbers, env, source_number, operand_number, put_at, IsPlanOf, IsKeptBy, SomeCovers}
 use Rattle.abs_step.proofs.ResultCover.{IsOperand, source_has}
-use Rattle.abs_step.proofs.StepCover.{drop_says, found_at, cells_same, same_posts, outcome_covers}
+use Rattle.abs_step.proofs.StepCover.{drop_says, found_at, cells_same, same_posts, outcome_covers, at_read, plus_zero}
 use Rattle.viper_decode.specs.declared.instructions.Source.{Source}
 use Rattle.viper_decode.specs.declared.instructions.Source.TheVariants.{Of, AfterP}
 use Rattle.viper_decode.specs.declared.instructions.Place.TheVariants.{At, Index}
 use Rattle.viper_decode.specs.declared.instructions.Operand.{Operand}
 use Rattle.viper_decode.specs.declared.instructions.Operand.TheVariants.{Literal, Memory, Peripheral}
-
-some_same : {S : Type 0} (x y : S) → Some x ≡ Some y → x ≡ y
-some_same x y h = cc
-
-some_bind_is : {S U : Type 0} (P : S → Type 0) (Q : U → Type 0) (o : Option S) (f : S → Option U) → IsSomeAnd o P → ((x : S) → o ≡ Some x → P x → IsSomeAnd (f x) Q) → IsSomeAnd (bind o f) Q
-some_bind_is P Q None f h k = absurd h
-some_bind_is P Q (Some x) f h k = k x refl h
 
 -- ---- comparisons
 
@@ -87,13 +80,6 @@ compared_says true (Some a) (Or l) e b h k m = by_test (nat_lt (length l) MOST_A
     by_test true = ap₂ (λ (x : Bool) (y : Bool). x || y) m (sym k) ∙ sym (any_append (λ w. atom_holds e w) l a)
     by_test false = tt
 
-at_read : (s : Numbers) (a : ℕ) (m : ℤ) → bind (lawful (pos a)) (λ n. Some (s.mem n)) ≡ Some m → m ≡ s.mem a
-at_read s a m h = by_test (int_le (pos 0) (pos a) && int_le (pos a) (pos (2 ^ 20 - 1))) h
-  where
-    by_test : (b : Bool) → bind (cond b (Some a) None) (λ n. Some (s.mem n)) ≡ Some m → m ≡ s.mem a
-    by_test true e = sym (some_same (s.mem a) m e)
-    by_test false e = absurd (cc)
-
 small_constant : (n : ℕ) (m : ℤ) → n < 2 ^ 20 → m ≡ pos n → constant_number (record { 0 = n }) ≡ m
 small_constant n m h e = omega (arith, ints)
 
@@ -120,7 +106,7 @@ module _ (plan : PlanLines) (cells : List ℕ) (s : Numbers) where
 
   pub right_of_is : {T : Type 0} (d : Domain T) (laws : DomainLaws d) (answer : ℤ) (o : Operand) (m : ℤ) → IsOperand d laws o → IsPlanOf plan → IsKeptBy plan s.mem → operand_number s answer o ≡ Some m → IfSome (right_of plan cells o) (λ w. right_number (env cells s) w ≡ m)
   unfolding operand_number
-  right_of_is d laws answer (Literal n) m i fits kept h = small_constant n m i (sym (some_same (pos n) m h))
+  right_of_is d laws answer (Literal n) m i fits kept h = small_constant n m i (sym (same_Some (pos n) m h))
   right_of_is d laws answer (Memory (At a)) m i fits kept h =
       subst (λ (y : ℤ). IfSome (first_of (cell_right (find_cell cells a)) (word_right (code_word plan a))) (λ w. right_number (env cells s) w ≡ y)) (sym (at_read s a m h))
       (first_is (s.mem a) (find_cell cells a) (code_word plan a) (found_at s.mem cells a) (code_is plan s.mem a kept))
@@ -145,9 +131,6 @@ Distinct (c ∷ cs) = (is_tracked cs c ≡ false) × Distinct cs
 eq_false : (m n : ℕ) → nat_eq m n ≡ false → m ≢ n
 eq_false m n h = grind (arith, nat_tests)
 
-true_eq : (m n : ℕ) → m ≡ n → nat_eq m n ≡ true
-true_eq m n h = grind (arith, nat_tests)
-
 back_false : (c a : ℕ) → nat_eq c a ≡ false → nat_eq a c ≡ false
 back_false c a e = let n = eq_false c a e in grind (arith, nat_tests)
 
@@ -169,8 +152,8 @@ stored_cells mem a z (c ∷ cs) h = by_test (nat_eq c a) refl (find_cell cs a) (
   where
     by_test : (t : Bool) → nat_eq c a ≡ t → (o : Option ℕ) → map (put_at mem a z) cs ≡ after_store (map mem cs) o z → (put_at mem a z c ∷ map (put_at mem a z) cs) ≡ after_store (mem c ∷ map mem cs) (cond t (Some 0) (bind o (λ i. Some (suc i)))) z
     by_test true e o k =
-        let p : a ≡ c = sym (eq_true c a e) in
-        ap₂ (λ (x : ℤ) (xs : List ℤ). x ∷ xs) (ap (λ (b : Bool). cond b z (mem c)) (true_eq a c p)) (untouched mem a z cs (subst (λ (n : ℕ). is_tracked cs n ≡ false) (eq_true c a e) h.0))
+        let p : a ≡ c = sym (eqb-true c a e) in
+        ap₂ (λ (x : ℤ) (xs : List ℤ). x ∷ xs) (ap (λ (b : Bool). cond b z (mem c)) (eq-eqb a c p)) (untouched mem a z cs (subst (λ (n : ℕ). is_tracked cs n ≡ false) (eqb-true c a e) h.0))
     by_test false e None k = ap₂ (λ (x : ℤ) (xs : List ℤ). x ∷ xs) (ap (λ (b : Bool). cond b z (mem c)) (back_false c a e)) k
     by_test false e (Some i) k = ap₂ (λ (x : ℤ) (xs : List ℤ). x ∷ xs) (ap (λ (b : Bool). cond b z (mem c)) (back_false c a e)) k
 
@@ -189,7 +172,7 @@ unhit p mem n z [] j t h = refl
 unhit p mem n z (c ∷ cs) zero t h = by_test (nat_eq n c) refl
   where
     by_test : (b : Bool) → nat_eq n c ≡ b → cond b z (mem c) ≡ mem c
-    by_test true e = absurd (false≢true (sym h ∙ subst (λ (k : ℕ). p k ≡ true) (eq_true n c e) t))
+    by_test true e = absurd (false≢true (sym h ∙ subst (λ (k : ℕ). p k ≡ true) (eqb-true n c e) t))
     by_test false e = refl
 unhit p mem n z (c ∷ cs) (suc j) t h = unhit p mem n z cs j t h
 
@@ -199,11 +182,8 @@ several_posts e p mem n z (c ∷ cs) t = (by_tests (p c) refl (nat_eq n c) refl,
   where
     by_tests : (b : Bool) → p c ≡ b → (w : Bool) → nat_eq n c ≡ w → PostHolds e (cond b post.Within post.Same) (mem c) (cond w z (mem c))
     by_tests true i w j = tt
-    by_tests false i true j = absurd (false≢true (sym i ∙ subst (λ (k : ℕ). p k ≡ true) (eq_true n c j) t))
+    by_tests false i true j = absurd (false≢true (sym i ∙ subst (λ (k : ℕ). p k ≡ true) (eqb-true n c j) t))
     by_tests false i false j = refl
-
-plus_zero : (x : ℤ) → x ≡ x +ℤ pos 0
-plus_zero x = omega (arith, ints)
 
 set_links : (links : Regs (Option Link)) (e : Values ℤ) → LinksHold links e → (r : Reg) (o : Option Link) → LinkHolds e r o → LinksHold (set_reg links r o) e
 set_links links e h A o k = record { a = k; x = h.x; y = h.y }
@@ -253,7 +233,7 @@ module _ {T : Type 0} (d : Domain T) (laws : DomainLaws d) where
       by_tests : (b : Bool) → p c ≡ b → (e : Bool) → nat_eq n c ≡ e → Has d (cond b (d.join v w) v) (cond e z (mem c))
       by_tests true i true j = laws.order.has w (d.join v w) z (laws.order.join_right v w) k
       by_tests true i false j = laws.order.has v (d.join v w) (mem c) (laws.order.join_left v w) h.0
-      by_tests false i true j = absurd (false≢true (sym i ∙ subst (λ (q : ℕ). p q ≡ true) (eq_true n c j) t))
+      by_tests false i true j = absurd (false≢true (sym i ∙ subst (λ (q : ℕ). p q ≡ true) (eqb-true n c j) t))
       by_tests false i false j = h.0
 
   abbrev pub after_put : Numbers → ℕ → ℤ → Numbers

@@ -1,8 +1,9 @@
 -- A step from a state that meets a fact touches only what the plan declares.
-use Rattle.std.specs.Prelude.{◌≡◌, ℕ, ◌-◌, ◌^◌, ◌<◌, ◌≤◌, ◌==◌, ℤ, Bool, true, false, not, ◌&&◌, ◌||◌, cond, nat_le, List, [], ◌∷◌, length, Some, None, IfSome, IsSomeAnd, if◌then◌else◌, ◌⊎◌}
+use Rattle.std.specs.Prelude.{◌≡◌, ℕ, ◌-◌, ◌^◌, ◌<◌, ◌==◌, ℤ, Bool, true, false, not, ◌&&◌, ◌||◌, cond, nat_le, List, [], ◌∷◌, length, Some, None, IfSome, IsSomeAnd, if◌then◌else◌, ◌⊎◌}
 use Rattle.std.proofs.Common.{refl, arith, sym, subst, ◌∙◌, inl, inr, suc}
-use Rattle.std.proofs.lemmas.Bool.{and_parts, false≢true}
+use Rattle.std.proofs.lemmas.Bool.{and_parts, false≢true, leb-true, not-true}
 use Rattle.std.proofs.lemmas.Bool.Decides.{nat_tests}
+use Rattle.std.proofs.lemmas.Option.{same_Some}
 use Rattle.viper_word.specs.Words.{signed_value}
 use Rattle.viper_word.specs.Fields.{Fields, AreFields, is_illegal, is_function, is_output, is_store, is_shift, has_address, is_input}
 use Rattle.viper_word.specs.Machine.{State, IsState, current, register, address, is_lawful, is_skipped, is_performed, address_if}
@@ -27,9 +28,7 @@ use Rattle.abs_step.proofs.TidyLaws.{allowed_tidy}
 use Rattle.abs_step.proofs.MachineReads.{place_is, source_is}
 use Rattle.abs_step.proofs.StateCover.{is_there, spaced}
 use Rattle.abs_step.proofs.KindCases.{each_kind}
-
-some_is : {A : Type 0} (x y : A) → Some x ≡ Some y → x ≡ y
-some_is x y h = cc
+use Rattle.abs_step.proofs.MachineSteps.{second_false}
 
 -- ---- spans
 
@@ -37,13 +36,10 @@ pub covers_from : (ss : List Span) (n : ℕ) → in_spans ss n ≡ true → Cove
 covers_from [] n h = absurd (false≢true h)
 covers_from (s ∷ ss) n h = by_test (nat_le s.0 n && nat_le n s.1) refl h (λ e. covers_from ss n e)
   where
-    le_test : (m n : ℕ) → nat_le m n ≡ true → m ≤ n
-    le_test m n h = grind (arith, nat_tests)
-
     by_test : (b : Bool) → (nat_le s.0 n && nat_le n s.1) ≡ b → (b || in_spans ss n) ≡ true → (in_spans ss n ≡ true → Covers ss n) → Covers (s ∷ ss) n
     by_test true t e k =
         let p = and_parts (nat_le s.0 n) (nat_le n s.1) t in
-        record { span = s; listed = (0, omega arith, refl); low = le_test s.0 n p.0; high = le_test n s.1 p.1 }
+        record { span = s; listed = (0, omega arith, refl); low = leb-true s.0 n p.0; high = leb-true n s.1 p.1 }
     by_test false t e k =
         let c = k e in
         record { span = c.span; listed = (suc c.listed.0, further (length ss) c.listed.0 c.listed.1, c.listed.2); low = c.low; high = c.high }
@@ -55,13 +51,10 @@ allows_from : (ss : List Span) (n : ℕ) (r : NumberRange) (z : ℤ) → range_a
 allows_from [] n r z h k = absurd (cc)
 allows_from (s ∷ ss) n r z h k = by_test (nat_le s.0 n && nat_le n s.1) refl h (λ e. allows_from ss n r z e k)
   where
-    le_test : (m n : ℕ) → nat_le m n ≡ true → m ≤ n
-    le_test m n h = grind (arith, nat_tests)
-
     by_test : (b : Bool) → (nat_le s.0 n && nat_le n s.1) ≡ b → (if b then Some s.2 else range_at ss n) ≡ Some r → (range_at ss n ≡ Some r → Allows ss n z) → Allows (s ∷ ss) n z
     by_test true t e q =
         let p = and_parts (nat_le s.0 n) (nat_le n s.1) t in
-        record { span = s; listed = (0, omega arith, refl); low = le_test s.0 n p.0; high = le_test n s.1 p.1; value = subst (λ (x : NumberRange). IsIn x z) (sym (some_is s.2 r e)) k }
+        record { span = s; listed = (0, omega arith, refl); low = leb-true s.0 n p.0; high = leb-true n s.1 p.1; value = subst (λ (x : NumberRange). IsIn x z) (sym (same_Some s.2 r e)) k }
     by_test false t e q =
         let c = q e in
         record { span = c.span; listed = (suc c.listed.0, further (length ss) c.listed.0 c.listed.1, c.listed.2); low = c.low; high = c.high; value = c.value }
@@ -81,10 +74,6 @@ pub record Touches (such : Fields → Bool) (s : State) : Type 0 where
   pub addressed : has_address (current s) ≡ true
   pub such_is : such (current s) ≡ true
 
-false_from : (x : Bool) → not x ≡ true → x ≡ false
-false_from true h = absurd (false≢true h)
-false_from false h = refl
-
 pub touched : (such : Fields → Bool) (s : State) (P : ℕ → Type 0) → (Touches such s → P (address (current s) s)) → IfSome (address_if such s) P
 unfolding is_performed
 touched such s P h =
@@ -96,7 +85,7 @@ touched such s P h =
     let d = and_parts (not (is_illegal i)) (not (is_skipped i s.b)) c.1 in
     let f = and_parts (has_address i) (such i && is_lawful (address i s)) a.1 in
     let g = and_parts (such i) (is_lawful (address i s)) f.1 in
-    h (record { unskipped = false_from (is_skipped i s.b) d.1; addressed = f.0; such_is = g.0 }))
+    h (record { unskipped = not-true (is_skipped i s.b) d.1; addressed = f.0; such_is = g.0 }))
 
 module _ {T : Type 0} (d : Domain T) (laws : DomainLaws d) (plan : PlanLines) (cells : List ℕ) (s : State) (answer : ℕ) (words : IsState s) (i : Fields) (fields : AreFields i) where
   -- the machine's address is one of those that the place may be
@@ -111,12 +100,8 @@ module _ {T : Type 0} (d : Domain T) (laws : DomainLaws d) (plan : PlanLines) (c
 
   no_shift : (v : Values T) → is_function i ≡ true → is_shift i ≡ false → work_lawful d plan v (work_of i) ≡ true → operand_lawful d plan v (operand_of i) ≡ true
   unfolding work_of
-  no_shift v is h k = by_test (i.f == 12) (second (is_function i) (i.f == 12) is h) k
+  no_shift v is h k = by_test (i.f == 12) (second_false (is_function i) (i.f == 12) is h) k
     where
-      second : (x y : Bool) → x ≡ true → (x && y) ≡ false → y ≡ false
-      second true y e h = h
-      second false y e h = absurd (false≢true e)
-
       by_test : (b : Bool) → b ≡ false → work_lawful d plan v (if b then Move (shift_of i.m) (source_of i.r) else Apply (function_of i.f) (source_of i.r) (operand_of i)) ≡ true → operand_lawful d plan v (operand_of i) ≡ true
       by_test false e k = k
       by_test true e k = absurd (false≢true (sym e))
@@ -135,7 +120,7 @@ module _ {T : Type 0} (d : Domain T) (laws : DomainLaws d) (plan : PlanLines) (c
   unfolding operand_of operand_lawful
   memory_tidy v m h a j o q =
       let p = and_parts (not (i.m == 0)) (not (is_shift i)) a in
-      from (in_code plan (address i s)) refl (place_tidy v (λ n. in_memory plan n) m (by_mode (i.m == 0) (is_input i) (false_from (i.m == 0) p.0) j (operand_allowed v o q (false_from (is_shift i) p.1) h)))
+      from (in_code plan (address i s)) refl (place_tidy v (λ n. in_memory plan n) m (by_mode (i.m == 0) (is_input i) (not-true (i.m == 0) p.0) j (operand_allowed v o q (not-true (is_shift i) p.1) h)))
     where
       by_mode : (b c : Bool) → b ≡ false → c ≡ false → operand_lawful d plan v (if b then Literal i.field else if c then Peripheral (place_of i) else Memory (place_of i)) ≡ true → each_address d (place_of i) v (λ n. in_memory plan n) ≡ true
       by_mode false false e g k = k
@@ -150,7 +135,7 @@ module _ {T : Type 0} (d : Domain T) (laws : DomainLaws d) (plan : PlanLines) (c
   unfolding operand_of operand_lawful
   input_tidy v m h a j =
       let p = and_parts (not (i.m == 0)) (not (is_shift i)) a in
-      covers_from plan.inputs (address i s) (place_tidy v (λ n. in_spans plan.inputs n) m (by_mode (i.m == 0) (is_input i) (false_from (i.m == 0) p.0) j (operand_allowed v (no_output i j) (no_store i j) (false_from (is_shift i) p.1) h)))
+      covers_from plan.inputs (address i s) (place_tidy v (λ n. in_spans plan.inputs n) m (by_mode (i.m == 0) (is_input i) (not-true (i.m == 0) p.0) j (operand_allowed v (no_output i j) (no_store i j) (not-true (is_shift i) p.1) h)))
     where
       no_output : (i : Fields) → is_input i ≡ true → is_output i ≡ false
       no_output i h = grind (arith, nat_tests)

@@ -38,7 +38,8 @@ use Rattle.viper_decode.specs.declared.instructions.Instruction.TheVariants.{Com
 abbrev pub sums_within : Option Ends → Option Ends → Bool
 sums_within None q = true
 sums_within (Some e) q =
-    ends_within q e.lo least_signed greatest_signed && ends_within q e.hi least_signed greatest_signed
+    ends_within q e.lo least_signed greatest_signed
+    && ends_within q e.hi least_signed greatest_signed
 
 abbrev pub less_within : Option Ends → Option Ends → Bool
 less_within None q = true
@@ -220,7 +221,8 @@ module _ {T : Type 0} (d : Domain T) where
       (unless (holds C6) C6
       (unless (holds C7) C7 None))))))
 
-  abbrev pub outcomes_at : PlanLines → List ℕ → ℕ → Option Instruction → Option (FactOf T) → List (OutcomeOf T)
+  abbrev pub outcomes_at : PlanLines → List ℕ → ℕ → Option Instruction → Option (FactOf T)
+      → List (OutcomeOf T)
   outcomes_at plan cells at None f = []
   outcomes_at plan cells at (Some instruction) None = []
   outcomes_at plan cells at (Some instruction) (Some f) =

@@ -67,19 +67,23 @@ module _ {T : Type 0} (d : Domain T) where
   unfoldable pub performed : PlanLines → List ℕ → ℕ → Instruction → FactOf T → List (OutcomeOf T)
   performed plan cells at (Compare joined k s o) f =
       each (operand_value d plan cells (values f) o)
-      (λ _. outcome d (at + 1) f (with_flag f (compared_flag joined (atom_of plan cells k s o) f.flag)) (all_same cells))
+      (λ _. outcome d (at + 1) f
+      (with_flag f (compared_flag joined (atom_of plan cells k s o) f.flag)) (all_same cells))
   performed plan cells at (Assign r w) f =
       each (result_value d plan cells at (values f) f.flag w)
-      (λ v. outcome d (at + 1) f (assigned plan.profile cells f r w v) (with_reg (all_same cells) r (origin cells w)))
+      (λ v. outcome d (at + 1) f (assigned plan.profile cells f r w v)
+      (with_reg (all_same cells) r (origin cells w)))
   performed plan cells at (Jump side w) f =
-      each (result_value d plan cells at (values f) f.flag w) (λ v. jumps plan cells at (is_call w) f v)
+      each (result_value d plan cells at (values f) f.flag w)
+      (λ v. jumps plan cells at (is_call w) f v)
   performed plan cells at (Output s p) f =
       cond (any_from (addressed d p (values f)) 0 (2 ^ 20))
       (outcome d (at + 1) f f (all_same cells)) []
   performed plan cells at (Store s p) f = stored d cells at f s p (spot d p (values f))
 
   -- the skipped side first, then the taken one
-  unfoldable pub instruction_outcomes : PlanLines → List ℕ → ℕ → Instruction → FactOf T → List (OutcomeOf T)
+  unfoldable pub instruction_outcomes : PlanLines → List ℕ → ℕ → Instruction → FactOf T
+      → List (OutcomeOf T)
   instruction_outcomes plan cells at instruction f =
       each (skipped_side instruction f) (λ g. outcome d (at + 1) g g (all_same cells))
       ++ each (taken_side instruction f) (λ g. performed plan cells at instruction g)

@@ -36,8 +36,8 @@ module _ {T : Type 0} (d : Domain T) (plan : PlanLines) (cells : List ℕ) where
   abbrev pub MeetsStarts : Start → FactOf T → Type 0
   MeetsStarts line f = (s : State) (h : IsStart plan s) → h.line ≡ line → MeetsFact f s
 
-  -- the outcome is that of a step from s to u: it leads to u's address, s meets its fact before and u its
-  -- fact after, and what it says of each variable is true
+  -- the outcome is that of a step from s to u: it leads to u's address, s meets its fact before and
+  -- u its fact after, and what it says of each variable is true
   pub record IsOutcome (s u : State) (o : OutcomeOf T) : Type 0 where
     pub target : o.target ≡ u.p
     pub before : Meets d o.pre (numbers_in cells s) s.b

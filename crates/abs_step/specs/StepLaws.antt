@@ -20,8 +20,8 @@ Ascend (c ∷ []) = Unit {0}
 Ascend (c ∷ c' ∷ cs) = (c < c') × Ascend (c' ∷ cs)
 
 module _ {T : Type 0} (d : Domain T) (plan : PlanLines) (cells : List ℕ) where
-  -- a step from s, where the fact f is met: it touches only what the plan declares, the state after it is
-  -- kept, and one of the outcomes is its own
+  -- a step from s, where the fact f is met: it touches only what the plan declares, the state after
+  -- it is kept, and one of the outcomes is its own
   pub record StepCovered (f : FactOf T) (s : State) (answer : ℕ) : Type 0 where
     pub tidy : IsTidy plan s answer
     pub kept : IsKept plan (next plan.profile s answer)

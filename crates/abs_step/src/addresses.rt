@@ -1,15 +1,14 @@
 //! The addresses that a place may be, and whether each of them may be used.
 
-ghost use Rattle.std.specs.Prelude.{◌≡◌, ◌<◌, ◌≤◌, ◌-◌, ◌+◌, ◌^◌, ◌||◌, nat_eq, ◌+ℤ◌, pos, not, IfSome};
+ghost use Rattle.std.specs.Prelude.{◌≡◌, ◌<◌, ◌≤◌, ◌-◌, ◌+◌, ◌^◌, ◌||◌, ◌&&◌, nat_eq, nat_le, nat_lt, ◌+ℤ◌, pos, not};
 ghost use Rattle.std.specs.Ordering.{int_eq};
 ghost use Rattle.viper_word.specs.Words.{IsSigned};
 ghost use Rattle.flag_relation.specs.Facts.{values};
 ghost use Rattle.num_domain.specs.Ends.{ends};
-ghost use Rattle.memory_plan.specs.Plans.{has_code};
-ghost use Rattle.abs_step.specs.Addresses.{any_from, in_spans, passes_at};
-ghost use Rattle.abs_step.specs.Results.{addressed, ends_within, in_memory};
+ghost use Rattle.abs_step.specs.Addresses.{any_from, passes_at};
+ghost use Rattle.abs_step.specs.Results.{addressed, ends_within};
 ghost use Rattle.abs_step.specs.Conditions.{in_range, each_address};
-ghost use Rattle.abs_step.specs.Walks.{first_from, is_found, IsStretch, IsRun, allows, refuses};
+ghost use Rattle.abs_step.specs.Walks.{all_pass, allows, first_from, fits, is_found, is_in_either};
 
 use crate::points::{COUNT, ends_lie, first_point};
 use flag_relation::Fact;
@@ -50,7 +49,8 @@ pub(crate) fn first_address<D: NumDomain>(
     to: u32,
 ) -> Option<Addr>
     requires { to ≤ 2 ^ 20 }
-    ensures { result ≡ first_from (addressed D.domain place.now (values fact.now)) from (to - from) }
+    ensures { result ≡ first_from
+        (addressed D.domain place.now (values fact.now)) from (to - from) }
 {
     match place {
         Place::At(a) => first_only(*a, from, to),
@@ -87,72 +87,6 @@ pub(crate) fn may_meet<D: NumDomain>(place: &Place, fact: &Fact<D>, from: u32, t
     is_found(first_address(place, fact, from, to))
 }
 
-/// The last address of a code span with the address.
-fn end_in_code(spans: &[(Addr, Addr)], at: Addr) -> Option<u32>
-    ensures { IsStretch (has_code spans.now) at result }
-{
-    match spans {
-        [] => None,
-        [first, rest @ ..] => {
-            if first.0 <= at && at <= first.1 {
-                Some(first.1.get())
-            } else {
-                end_in_code(rest, at)
-            }
-        }
-    }
-}
-
-/// The last address of a span with the address.
-fn end_in_spans(spans: &[(Addr, Addr, Range)], at: Addr) -> Option<u32>
-    ensures { IsStretch (in_spans spans.now) at result }
-{
-    match spans {
-        [] => None,
-        [first, rest @ ..] => {
-            if first.0 <= at && at <= first.1 {
-                Some(first.1.get())
-            } else {
-                end_in_spans(rest, at)
-            }
-        }
-    }
-}
-
-/// The last address up to `last` from `at` on that is before the span, or in it as `at` is.
-fn cut(first: Addr, at: Addr, last: u32) -> u32
-    requires { at ≤ last }
-    ensures up { at ≤ result }
-    ensures cut { result ≤ last }
-    ensures before { at < first → result < first }
-{
-    if at < first && first.get() <= last {
-        first.get() - 1
-    } else {
-        last
-    }
-}
-
-/// The range at the address, and the last address up to `last` so that all from the one to the other
-/// have the range of the same span.
-fn run_up_to(spans: &[(Addr, Addr, Range)], at: Addr, last: u32) -> Option<(Range, u32)>
-    requires up { at ≤ last }
-    requires small { last < 2 ^ 20 }
-    ensures run { IsRun spans.now at result }
-    ensures cut { IfSome result (λ r. r.1 ≤ last) }
-{
-    match spans {
-        [] => None,
-        [first, rest @ ..] => {
-            if first.0 <= at && at <= first.1 {
-                Some((first.2, last.min(first.1.get())))
-            } else {
-                run_up_to(rest, at, cut(first.0, at, last))
-            }
-        }
-    }
-}
-
 /// Does the range have one number, or is the value on its steps?
 fn is_on_steps<D: NumDomain>(v: &D, range: &Range) -> bool
     ensures { result ≡ (int_eq range.now.lo range.now.hi
@@ -168,51 +102,179 @@ fn lies_in<D: NumDomain>(v: &D, range: &Range) -> bool
     ends_lie(v, 0, range.lo, range.hi) && is_on_steps(v, range)
 }
 
-/// The last address so that the value may go to each from `at` to it.
-fn end_for<D: NumDomain>(spans: &[(Addr, Addr, Range)], v: &D, at: Addr) -> Option<u32>
-    ensures { IsStretch (passes_at spans.now (λ r. in_range D.domain v.now r)) at result }
+/// Does what is done fit a span with the range?
+fn fits<D: NumDomain>(what: &Use<D>, range: &Range) -> bool
+    ensures { result ≡ fits D.domain what.now range.now }
 {
-    let (range, last) = run_up_to(spans, at, Addr::LAST)?;
-    if lies_in(v, &range) { Some(last) } else { None }
-}
-
-/// The last address so that all from `at` to it are in memory.
-fn end_in_memory(plan: &Plan, at: Addr) -> Option<u32>
-    ensures { IsStretch (in_memory plan.now) at result }
-{
-    match end_in_code(plan.code_spans(), at) {
-        Some(last) => Some(last),
-        None => end_in_spans(plan.data_spans(), at),
+    match what {
+        Use::Read | Use::Input => true,
+        Use::Store(v) | Use::Output(v) => lies_in(v, range),
     }
 }
 
-/// The last address so that it may be done at each from `at` to it.
-fn end_of<D: NumDomain>(plan: &Plan, what: &Use<D>, at: Addr) -> Option<u32>
-    ensures { IsStretch (allows D.domain plan.now what.now) at result }
+/// Do the addresses from `lo` to `hi` and those from `from` on below `to` share none?
+fn are_apart(lo: Addr, hi: Addr, from: u32, to: u32) -> bool
+    ensures { result ≡ (nat_lt hi lo || (nat_lt hi from || nat_le to lo)) }
+{
+    hi < lo || (hi.get() < from || to <= lo.get())
+}
+
+/// May the place be an address from `from` on below `to`, where what is done doesn't fit the range?
+fn fails_in<D: NumDomain>(
+    range: &Range,
+    what: &Use<D>,
+    place: &Place,
+    fact: &Fact<D>,
+    from: u32,
+    to: u32,
+) -> bool
+    requires { to ≤ 2 ^ 20 }
+    ensures { result ≡ (not (fits D.domain what.now range.now)
+        && any_from (addressed D.domain place.now (values fact.now)) from (to - from)) }
+{
+    !fits(what, range) && may_meet(place, fact, from, to)
+}
+
+/// Is each address of the place from `from` on below `to` in a span, and does what is done fit the
+/// range of the first such span? A span divides the addresses into those before it, those in it, and
+/// those behind it, so that each span is looked at once where they ascend.
+#[cycle(spans)]
+fn are_in_spans<D: NumDomain>(
+    spans: &[(Addr, Addr, Range)],
+    what: &Use<D>,
+    place: &Place,
+    fact: &Fact<D>,
+    from: u32,
+    to: u32,
+) -> bool
+    requires order { from ≤ to }
+    requires small { to ≤ 2 ^ 20 }
+    ensures { result ≡ all_pass (addressed D.domain place.now (values fact.now))
+        (passes_at spans.now (fits D.domain what.now)) from to }
+{
+    match spans {
+        [] => !may_meet(place, fact, from, to),
+        [first, rest @ ..] => {
+            if are_apart(first.0, first.1, from, to) {
+                return are_in_spans(rest, what, place, fact, from, to);
+            }
+            let low = from.max(first.0.get());
+            let high = to.min(first.1.get() + 1);
+            !fails_in(&first.2, what, place, fact, low, high)
+                && (are_met_in_spans(rest, what, place, fact, from, low)
+                    && are_met_in_spans(rest, what, place, fact, high, to))
+        }
+    }
+}
+
+/// The same, where the place may be none of the addresses: then no span is looked at.
+#[cycle(spans)]
+fn are_met_in_spans<D: NumDomain>(
+    spans: &[(Addr, Addr, Range)],
+    what: &Use<D>,
+    place: &Place,
+    fact: &Fact<D>,
+    from: u32,
+    to: u32,
+) -> bool
+    requires order { from ≤ to }
+    requires small { to ≤ 2 ^ 20 }
+    ensures { result ≡ all_pass (addressed D.domain place.now (values fact.now))
+        (passes_at spans.now (fits D.domain what.now)) from to }
+{
+    if from == to {
+        return true;
+    }
+    if !may_meet(place, fact, from, to) {
+        return true;
+    }
+    are_in_spans(spans, what, place, fact, from, to)
+}
+
+/// Is each address of the place from `from` on below `to` in a code span or in a data span?
+#[cycle(memory)]
+fn are_in_memory<D: NumDomain>(
+    code: &[(Addr, Addr)],
+    spans: &[(Addr, Addr, Range)],
+    place: &Place,
+    fact: &Fact<D>,
+    from: u32,
+    to: u32,
+) -> bool
+    requires order { from ≤ to }
+    requires small { to ≤ 2 ^ 20 }
+    ensures { result ≡ all_pass (addressed D.domain place.now (values fact.now))
+        (is_in_either code.now spans.now) from to }
+{
+    match code {
+        [] => are_in_spans(spans, &Use::Read, place, fact, from, to),
+        [first, rest @ ..] => {
+            if are_apart(first.0, first.1, from, to) {
+                return are_in_memory(rest, spans, place, fact, from, to);
+            }
+            let low = from.max(first.0.get());
+            let high = to.min(first.1.get() + 1);
+            are_met_in_memory(rest, spans, place, fact, from, low)
+                && are_met_in_memory(rest, spans, place, fact, high, to)
+        }
+    }
+}
+
+/// The same, where the place may be none of the addresses: then no span is looked at.
+#[cycle(memory)]
+fn are_met_in_memory<D: NumDomain>(
+    code: &[(Addr, Addr)],
+    spans: &[(Addr, Addr, Range)],
+    place: &Place,
+    fact: &Fact<D>,
+    from: u32,
+    to: u32,
+) -> bool
+    requires order { from ≤ to }
+    requires small { to ≤ 2 ^ 20 }
+    ensures { result ≡ all_pass (addressed D.domain place.now (values fact.now))
+        (is_in_either code.now spans.now) from to }
+{
+    if from == to {
+        return true;
+    }
+    if !may_meet(place, fact, from, to) {
+        return true;
+    }
+    are_in_memory(code, spans, place, fact, from, to)
+}
+
+/// May it be done at each address of the place from `from` on below `to`?
+fn are_allowed<D: NumDomain>(
+    plan: &Plan,
+    what: &Use<D>,
+    place: &Place,
+    fact: &Fact<D>,
+    from: u32,
+    to: u32,
+) -> bool
+    requires order { from ≤ to }
+    requires small { to ≤ 2 ^ 20 }
+    ensures { result ≡ all_pass (addressed D.domain place.now (values fact.now))
+        (allows D.domain plan.now what.now) from to }
 {
     match what {
-        Use::Read => end_in_memory(plan, at),
-        Use::Input => end_in_spans(plan.input_spans(), at),
-        Use::Store(v) => end_for(plan.data_spans(), v, at),
-        Use::Output(v) => end_for(plan.output_spans(), v, at),
+        Use::Read => { are_in_memory(plan.code_spans(), plan.data_spans(), place, fact, from, to) }
+        Use::Input => are_in_spans(plan.input_spans(), what, place, fact, from, to),
+        Use::Store(_) => are_in_spans(plan.data_spans(), what, place, fact, from, to),
+        Use::Output(_) => are_in_spans(plan.output_spans(), what, place, fact, from, to),
     }
 }
 
 /// May it be done at each address that the place may be?
 fn is_allowed<D: NumDomain>(plan: &Plan, what: &Use<D>, place: &Place, fact: &Fact<D>) -> bool
-    ensures { result ≡ not (any_from (refuses D.domain plan.now what.now place.now (values fact.now)) 0 (2 ^ 20)) }
+    ensures { result ≡ all_pass (addressed D.domain place.now (values fact.now))
+        (allows D.domain plan.now what.now) 0 (2 ^ 20) }
 {
-    let mut at = 0;
-    while at < COUNT {
-        let Some(next) = first_address(place, fact, at, COUNT) else {
-            return true;
-        };
-        let Some(last) = end_of(plan, what, next) else {
-            return false;
-        };
-        at = last + 1;
+    match first_address(place, fact, 0, COUNT) {
+        None => true,
+        Some(first) => are_allowed(plan, what, place, fact, first.get(), COUNT),
     }
-    true
 }
 
 /// Is each address of the place lawful, and may it be done there?
@@ -223,10 +285,11 @@ pub(crate) fn each_address<D: NumDomain>(
     place: &Place,
     fact: &Fact<D>,
 ) -> bool
-    ensures { result ≡ each_address D.domain place.now (values fact.now) (allows D.domain plan.now what.now) }
+    ensures { result ≡ each_address D.domain place.now (values fact.now)
+        (allows D.domain plan.now what.now) }
 {
     match place {
-        Place::At(a) => end_of(plan, what, *a).is_some(),
+        Place::At(a) => are_allowed(plan, what, place, fact, a.get(), a.get() + 1),
         Place::Index(a, r) => {
             ends_lie(&fact.reg(*r), i64::from(a.get()), 0, i64::from(Addr::LAST))
                 && is_allowed(plan, what, place, fact)

@@ -5,6 +5,7 @@ ghost use Rattle.flag_relation.specs.Facts.{values};
 ghost use Rattle.num_domain.specs.Ends.{ends};
 ghost use Rattle.memory_plan.specs.Plans.{in_code};
 ghost use Rattle.abs_step.specs.Addresses.{any_from, passing};
+ghost use Rattle.abs_step.specs.Results.{operand_value, source_value};
 ghost use Rattle.abs_step.specs.Conditions.{function_exact, move_exact, ends_of, sums_within, less_within, twice_within, above_least, operand_lawful, work_lawful, work_exact, c3, c4, c5, c6, c7, targets_lawful};
 ghost use Rattle.abs_step.specs.Walks.{is_point_at};
 ghost use Rattle.abs_step.specs.declared.outcome.TheConstants.{MOST_TARGETS};
@@ -18,7 +19,7 @@ use crate::results::{result_value, source_value};
 use flag_relation::Fact;
 use memory_plan::Plan;
 use num_domain::NumDomain;
-use viper_decode::{Function, Instruction, Operand, Shift, Work};
+use viper_decode::{Function, Instruction, Operand, Shift, Source, Work};
 use viper_word::{Addr, GREATEST_SIGNED, LEAST_SIGNED, Profile};
 
 /// Is each address of the operand in code or data, or for INP in an input span?
@@ -160,7 +161,8 @@ fn is_above_least<D: NumDomain>(m: &D) -> bool
 /// Do the results of the function on the ends stay within a signed word?
 #[tactic(auto, unfolding(crate::specs::Conditions::function_exact))]
 fn is_exact<D: NumDomain>(profile: Profile, function: Function, r: &D, m: &D) -> bool
-    ensures { result ≡ function_exact D.domain profile function (ends D.domain r.now) (ends D.domain m.now) }
+    ensures { result ≡
+        function_exact D.domain profile function (ends D.domain r.now) (ends D.domain m.now) }
 {
     match function {
         Function::Adds => sums_lie(r, m),
@@ -197,6 +199,42 @@ fn is_exact_on<D: NumDomain>(
     }
 }
 
+/// Does the result of the function stay within a signed word? The operand is made only where the
+/// answer depends on it.
+#[tactic(auto, unfolding(crate::specs::Conditions::function_exact))]
+fn is_result_exact<D: NumDomain>(
+    plan: &Plan,
+    cells: &[Addr],
+    at: Addr,
+    fact: &Fact<D>,
+    function: Function,
+    source: Source,
+    operand: &Operand,
+) -> bool
+    ensures { result ≡ function_exact D.domain plan.now.profile function
+        (ends D.domain (source_value D.domain at (values fact.now) source))
+        (ends_of D.domain
+        (operand_value D.domain plan.now cells.now (values fact.now) operand.now)) }
+{
+    match function {
+        Function::Adds | Function::Subs | Function::Neg => is_exact_on(
+            plan.profile(),
+            function,
+            &source_value(at, fact, source),
+            &operand_value(plan, cells, fact, operand),
+        ),
+        Function::Call
+        | Function::Inp
+        | Function::Read
+        | Function::Addb
+        | Function::Subb
+        | Function::Xor
+        | Function::And
+        | Function::Nor
+        | Function::Andn => true,
+    }
+}
+
 /// Does the shift on the ends stay within a signed word?
 #[tactic(auto, unfolding(crate::specs::Conditions::move_exact))]
 fn is_move_exact<D: NumDomain>(shift: Shift, r: &D) -> bool
@@ -220,12 +258,9 @@ fn is_work_exact<D: NumDomain>(
     ensures { result ≡ work_exact D.domain plan.now cells.now at (values fact.now) work.now }
 {
     match work {
-        Work::Apply(function, source, operand) => is_exact_on(
-            plan.profile(),
-            *function,
-            &source_value(at, fact, *source),
-            &operand_value(plan, cells, fact, operand),
-        ),
+        Work::Apply(function, source, operand) => {
+            is_result_exact(plan, cells, at, fact, *function, *source, operand)
+        }
         Work::Move(shift, source) => is_move_exact(*shift, &source_value(at, fact, *source)),
     }
 }
@@ -252,7 +287,8 @@ pub(crate) fn keeps_c4<D: NumDomain>(
 
 /// Has the value at most 64 points that are addresses?
 fn has_few_points<D: NumDomain>(v: &D) -> bool
-    ensures { result ≡ nat_le (length (passing (is_point_at D.domain v.now) 0 (2 ^ 20))) MOST_TARGETS }
+    ensures { result ≡
+        nat_le (length (passing (is_point_at D.domain v.now) 0 (2 ^ 20))) MOST_TARGETS }
 {
     let mut count = 0;
     let mut at = 0;

@@ -31,7 +31,8 @@ fn keep_target<D: NumDomain>(
     requires posts { length posts.now.cells ≡ places.old.cells }
     ensures { places.new ≡ record places.old {
       outcomes = places.old.outcomes
-          ++ cond (in_code plan.now target) (outcome D.domain target pre.now after.now posts.now) [];
+          ++ cond (in_code plan.now target)
+          (outcome D.domain target pre.now after.now posts.now) [];
     } }
 {
     if plan.in_code(target) {

@@ -59,7 +59,8 @@ pub(crate) fn compare<D: NumDomain>(
     requires next { at + 1 < 2 ^ 20 }
     ensures outcomes { places.new ≡ record places.old {
       outcomes = places.old.outcomes
-          ++ performed D.domain plan.now cells.now at (Compare joins kind source operand.now) side.now;
+          ++ performed D.domain plan.now cells.now at (Compare joins kind source operand.now)
+          side.now;
     } }
     ensures draft { draft.new ≡ draft.old }
 {
@@ -257,9 +258,12 @@ pub(crate) fn store_at_several<D: NumDomain>(
     requires next { at + 1 < 2 ^ 20 }
     ensures outcomes { places.new ≡ record places.old {
       outcomes = places.old.outcomes
-          ++ cond (spot D.domain place.now (values side.now)).several (outcome D.domain (at + 1) side.now
-          (store_several D.domain (addressed D.domain place.now (values side.now)) cells.now at side.now source)
-          (store_several_posts D.domain (addressed D.domain place.now (values side.now)) cells.now)) [];
+          ++ cond (spot D.domain place.now (values side.now)).several
+          (outcome D.domain (at + 1) side.now
+          (store_several D.domain (addressed D.domain place.now (values side.now)) cells.now at
+          side.now source)
+          (store_several_posts D.domain (addressed D.domain place.now (values side.now))
+          cells.now)) [];
     } }
     ensures draft { draft.new ≡ draft.old }
 {

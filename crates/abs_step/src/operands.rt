@@ -6,7 +6,7 @@ ghost use Rattle.memory_plan.specs.Plans.{word_at};
 ghost use Rattle.abs_step.specs.Addresses.{any_from, is_tracked};
 ghost use Rattle.abs_step.specs.Results.{addressed, or_value, given, join_all, cell_sources, span_meets, span_sources, word_source, words_from, read_code, read_memory, read_input, operand_value};
 ghost use Rattle.abs_step.specs.Starts.{range_value};
-ghost use Rattle.abs_step.specs.Walks.{is_untracked};
+ghost use Rattle.abs_step.specs.Walks.{is_greatest, is_untracked};
 
 use crate::addresses::{first_address, may_be, may_meet};
 use crate::starting::value_of;
@@ -16,6 +16,13 @@ use num_domain::NumDomain;
 use viper_decode::{Operand, Place};
 use viper_word::{Addr, signed};
 
+/// Both joined: the first, where it includes the second.
+fn join_of<D: NumDomain>(v: &D, w: &D) -> D
+    ensures { result ≡ D.domain.join v.now w.now }
+{
+    if v.includes(w) { *v } else { v.join(w) }
+}
+
 /// Both joined, as far as they are there.
 fn joined<D: NumDomain>(first: Option<D>, second: Option<D>) -> Option<D>
     ensures { result ≡ or_value D.domain first second }
@@ -24,8 +31,18 @@ fn joined<D: NumDomain>(first: Option<D>, second: Option<D>) -> Option<D>
         None => second,
         Some(v) => match second {
             None => Some(v),
-            Some(w) => Some(v.join(&w)),
+            Some(w) => Some(join_of(&v, &w)),
         },
+    }
+}
+
+/// Has the value all numbers? Then no join changes it.
+fn is_greatest<D: NumDomain>(so_far: &Option<D>) -> bool
+    ensures { result ≡ is_greatest D.domain so_far.now }
+{
+    match so_far {
+        None => false,
+        Some(v) => v.includes(&D::top()),
     }
 }
 
@@ -53,7 +70,8 @@ fn join_cells<D: NumDomain>(
     so_far: Option<D>,
 ) -> Option<D>
     ensures { result ≡ join_all D.domain so_far
-        (cell_sources D.domain (addressed D.domain place.now (values fact.now)) cells.now known.now) }
+        (cell_sources D.domain (addressed D.domain place.now (values fact.now)) cells.now
+        known.now) }
 {
     match cells {
         [] => so_far,
@@ -118,6 +136,7 @@ fn input_value<D: NumDomain>(place: &Place, fact: &Fact<D>, span: &(Addr, Addr, 
 }
 
 /// The value, joined with the ranges of the data spans of which the place may be an untracked address.
+/// Where the value has all numbers, no span is looked at any more.
 #[tactic(auto, unfolding(crate::specs::Results::join_all, crate::specs::Results::span_sources))]
 fn join_data<D: NumDomain>(
     place: &Place,
@@ -132,6 +151,9 @@ fn join_data<D: NumDomain>(
     match spans {
         [] => so_far,
         [first, rest @ ..] => {
+            if is_greatest(&so_far) {
+                return so_far;
+            }
             let held = data_value(place, fact, cells, first);
             join_data(place, fact, cells, rest, joined(so_far, held))
         }
@@ -152,6 +174,9 @@ fn join_input<D: NumDomain>(
     match spans {
         [] => so_far,
         [first, rest @ ..] => {
+            if is_greatest(&so_far) {
+                return so_far;
+            }
             let held = input_value(place, fact, first);
             join_input(place, fact, rest, joined(so_far, held))
         }
@@ -184,6 +209,9 @@ fn join_words<D: NumDomain>(
     let mut at = from;
     let mut all = so_far;
     while at < to {
+        if is_greatest(&all) {
+            return all;
+        }
         let Some(next) = first_address(place, fact, at, to) else {
             return all;
         };
@@ -208,6 +236,9 @@ fn join_code<D: NumDomain>(
     match spans {
         [] => so_far,
         [first, rest @ ..] => {
+            if is_greatest(&so_far) {
+                return so_far;
+            }
             let all = join_words(plan, place, fact, first.0.get(), first.1.get() + 1, so_far);
             join_code(plan, place, fact, rest, all)
         }

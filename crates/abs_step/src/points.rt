@@ -69,7 +69,7 @@ pub(crate) fn first_point<D: NumDomain>(v: &D, base: u32, from: u32, to: u32) ->
     ensures from { IfSome result (λ n. from ≤ n) }
     ensures to { IfSome result (λ n. n < to) }
 {
-    let Some((_, hi)) = ends_of(v) else {
+    let Some(hi) = greatest_to(v, GREATEST_SIGNED) else {
         return None;
     };
     let mut at = from;

@@ -103,7 +103,8 @@ pub(crate) fn result_value<D: NumDomain>(
     fact: &Fact<D>,
     work: &Work,
 ) -> Option<D>
-    ensures { result ≡ result_value D.domain plan.now cells.now at (values fact.now) fact.now.flag work.now }
+    ensures { result ≡
+        result_value D.domain plan.now cells.now at (values fact.now) fact.now.flag work.now }
 {
     match work {
         Work::Apply(function, source, operand) => {

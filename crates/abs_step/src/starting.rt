@@ -16,7 +16,8 @@ use viper_word::{Addr, signed};
 pub fn start_fact<D: NumDomain>(plan: &Plan, cells: &[Addr], start: &Start, into: &mut Fact<D>)
     requires cells { length cells.now ≡ length into.old.cells }
     ensures value { into.new ≡ start_fact D.domain plan.now cells.now start.now }
-    ensures met { IsWellFormed plan.now → MeetsStarts D.domain plan.now cells.now start.now into.new }
+    ensures met { IsWellFormed plan.now
+        → MeetsStarts D.domain plan.now cells.now start.now into.new }
     ensures count { length into.new.cells ≡ length into.old.cells }
 {
     set_start(plan, cells, start, into);

@@ -1,9 +1,16 @@
 use Rattle.std.proofs.Common.{◌≡◌, ◌-◌, true, arith, sym, ◌∙◌, ap}
 use Rattle.flag_relation.specs.Facts.{values}
 use Rattle.memory_plan.specs.Plans.{word_at}
-use Rattle.abs_step.specs.Results.{addressed, or_value, word_source}
+use Rattle.abs_step.specs.Results.{addressed, or_value, word_source, words_from}
 use Rattle.abs_step.proofs.SearchLaws.{no_words, words_over, words_next_on, first_some}
+use Rattle.abs_step.proofs.JoinLaws.{all_greatest}
 use Rattle.abs_step.proofs.operands.join_words.Goals as goal
+
+pub returns-then-is_greatest : goal.returns-then-is_greatest
+returns-then-is_greatest g c =
+    let d = g.D.NumDomain.domain in
+    let p = addressed d c.args.place.now (values c.args.fact.now) in
+    sym (all_greatest d g.met.D.NumDomain.laws c.loop-at.all (words_from d c.args.plan.now p c.loop-at.at (c.args.to - c.loop-at.at)) (sym c.is_greatest.ensures ∙ c.if-is_greatest.true)) ∙ c.loop-at.invariant
 
 pub returns-in_default : goal.returns-in_default
 returns-in_default g c =

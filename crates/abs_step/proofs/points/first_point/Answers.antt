@@ -2,13 +2,13 @@ use Rattle.std.proofs.Common.{refl, ◌≡◌, ◌≤◌, ◌<◌, ◌-◌, ℤ,
 use Rattle.std.proofs.lemmas.Int.{ints}
 use Rattle.viper_word.specs.Words.{least_signed}
 use Rattle.abs_step.specs.Walks.{is_moved_point}
-use Rattle.abs_step.proofs.PointLaws.{walk_no_ends, walk_none, walk_beyond, walk_past, walk_here, walk_on, first_over, not_less}
-use Rattle.viper_word.proofs.Integers.{le_true, le_false}
+use Rattle.abs_step.proofs.PointLaws.{walk_no_high, walk_none, walk_beyond, walk_past, walk_here, walk_on, first_over}
+use Rattle.viper_word.proofs.Integers.{le_true, le_false, less_false}
 use Rattle.abs_step.proofs.points.first_point.Goals as goal
 
 pub returns-in_default-clause-first : goal.returns-in_default-clause-first
 returns-in_default-clause-first g c =
-    sym (walk_no_ends g.D.NumDomain.domain g.met.D.NumDomain.laws c.args.v.now c.args.base c.args.from (c.args.to - c.args.from) (sym c.in_default.ensures.ends))
+    sym (walk_no_high g.D.NumDomain.domain g.met.D.NumDomain.laws c.args.v.now c.args.base c.args.from (c.args.to - c.args.from) (sym c.in_default.ensures.value))
 
 pub returns-in_default-least_from-clause-first : goal.returns-in_default-least_from-clause-first
 returns-in_default-least_from-clause-first g c =
@@ -31,7 +31,7 @@ returns-then-next-hi-clause-first g c =
     let low = w.low in
     let high = w.high in
     let past : c.in-Some.hi <ℤ m = grind (arith, ints) in
-    sym (sym c.loop-at.invariant.same ∙ walk_beyond d laws v c.args.base c.loop-at.at (c.args.to - c.loop-at.at) i m c.in-Some.field-0-0 c.in-Some.hi refl e (sym c.in-Some.ensures.ends) past)
+    sym (sym c.loop-at.invariant.same ∙ walk_beyond d laws v c.args.base c.loop-at.at (c.args.to - c.loop-at.at) i m c.in-Some.hi refl e (sym c.in-Some.ensures.value) past)
 
 pub returns-then-next-less-clause-first : goal.returns-then-next-less-clause-first
 returns-then-next-less-clause-first g c =
@@ -59,8 +59,8 @@ returns-then-place-at-clause-first g c =
     let w = c.in-Some-least_from.ensures.signed in
     let low = w.low in
     let high = w.high in
-    let test = not_less (to_z w64 (of_z w64 c.in-Some.hi)) (to_z w64 (of_z w64 m)) c.if-next-hi.false in
-    let top = c.in-Some.ensures.high in
+    let test = less_false (to_z w64 (of_z w64 c.in-Some.hi)) (to_z w64 (of_z w64 m)) c.if-next-hi.false in
+    let top = c.in-Some.ensures.signed in
     let most = top.low in
     let least = top.high in
     let within : m ≤ℤ c.in-Some.hi = omega (arith, ints) in
@@ -69,7 +69,7 @@ returns-then-place-at-clause-first g c =
     let near : i ≤ℤ c.in-Some.hi = omega (arith, ints) in
     let signed : least_signed ≤ℤ i = omega (arith, ints) in
     let here : c.loop-at.at < c.args.to = omega arith in
-    sym (sym c.loop-at.invariant.same ∙ walk_here d laws v c.args.base c.loop-at.at c.args.to i c.in-Some.field-0-0 c.in-Some.hi refl (e ∙ ap Some same) (sym c.in-Some.ensures.ends) near signed here)
+    sym (sym c.loop-at.invariant.same ∙ walk_here d laws v c.args.base c.loop-at.at c.args.to i c.in-Some.hi refl (e ∙ ap Some same) (sym c.in-Some.ensures.value) near signed here)
 
 pub loop-at-smaller : goal.loop-at-smaller
 loop-at-smaller g c =

@@ -1,4 +1,4 @@
-use Rattle.std.proofs.Common.{List, ◌≡◌, ◌≤◌, ◌<◌, ◌++◌, ◌+◌, ℕ, length, arith, sym, subst}
+use Rattle.std.proofs.Common.{List, ◌≤◌, ◌<◌, ◌+◌, ℕ, length, arith, sym, subst}
 use Rattle.std.proofs.lemmas.List.{length-append}
 use Rattle.flag_relation.specs.Facts.{values}
 use Rattle.abs_step.specs.Addresses.{find_cell}

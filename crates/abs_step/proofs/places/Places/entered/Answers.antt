@@ -1,4 +1,4 @@
-use Rattle.std.proofs.Common.{ap, subst}
+use Rattle.std.proofs.Common.{subst}
 use Rattle.abs_step.specs.Places.{PlacesOf, AllHaveCells}
 use Rattle.abs_step.proofs.PlaceLaws.{cells_take}
 use Rattle.abs_step.proofs.places.Places.entered.Goals as goal

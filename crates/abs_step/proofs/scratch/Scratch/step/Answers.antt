@@ -1,11 +1,9 @@
-use Rattle.std.proofs.Common.{◌≡◌, ℕ, ◌+◌, ◌≤◌, Bool, false, true, List, [], ◌++◌, length, Option, None, Some, sym, ◌∙◌, ap, subst, arith}
+use Rattle.std.proofs.Common.{◌≡◌, ◌+◌, ◌≤◌, Bool, false, List, [], ◌++◌, length, None, Some, sym, ◌∙◌, ap, subst, arith}
 use Rattle.std.proofs.lemmas.List.{length-append}
-use Rattle.flag_relation.specs.Facts.{FactOf}
 use Rattle.flag_relation.specs.Emptiness.{is_empty}
 use Rattle.flag_relation.specs.InPlace.{left}
 use Rattle.abs_step.specs.OutcomeLists.{OutcomeOf}
 use Rattle.abs_step.specs.Outcomes.{taken_side, skipped_side, performed}
-use Rattle.abs_step.specs.Faults.{side_fault}
 use Rattle.abs_step.specs.Places.{PlacesOf}
 use Rattle.abs_step.specs.Scratches.{ScratchOf}
 use Rattle.abs_step.specs.declared.outcome.TheConstants.{MOST_TARGETS}
