@@ -1,9 +1,8 @@
 -- A text is that of one script, or has one first fault.
 use Rattle.std.proofs.Common.{◌≡◌, ◌∙◌, ℕ, List, [], ◌∷◌, map, refl, sym, ap, subst}
 use Rattle.text_lines.specs.Lines.{NumberedLine, kept_lines, past_end}
-use Rattle.text_lines.specs.Reading.{Breaks, IsWhole, HasOneReading as OneReading}
+use Rattle.text_lines.specs.Reading.{Breaks, IsWhole, HasOneReading}
 use Rattle.text_lines.proofs.Readings.{said_once, reading_once}
-use Rattle.memory_plan.specs.OneReading.{HasOneReading}
 use Rattle.memory_plan.specs.PlanText.{has_some}
 use Rattle.memory_plan.specs.Plans.{PlanLines}
 use Rattle.peripheral_run.specs.declared.fault.ScriptRule.{ScriptRule}
@@ -33,7 +32,7 @@ same_script a b e =
 -- ---- a script, or a fault
 
 -- a script's lines break no rule
-form_once : (text : List ℕ) → OneReading (IsWhole script_grammar has_some (kept_lines text)) (Breaks script_grammar has_some Form (kept_lines text) (past_end text))
+form_once : (text : List ℕ) → HasOneReading (IsWhole script_grammar has_some (kept_lines text)) (Breaks script_grammar has_some Form (kept_lines text) (past_end text))
 form_once text = reading_once ScriptLine ScriptRule script_grammar has_some Form (kept_lines text) (past_end text)
 
 no_fault : (plan : PlanLines) (text : List ℕ) (a : Scripted) (line : ℕ) (rule : ScriptRule) → IsScript plan text a → script_fault plan text line rule → ⊥

@@ -1,6 +1,7 @@
 -- What a script's lines say.
 use Rattle.std.proofs.Common.{◌≡◌, ◌∙◌, ℕ, Bool, true, false, List, [], ◌∷◌, ◌++◌, map, cond, Option, Some, None, refl, sym, ap, subst}
 use Rattle.std.proofs.lemmas.List.{map_push}
+use Rattle.std.specs.Str.{bytes_eq}
 use Rattle.text_lines.specs.Parts.{◌>>=◌}
 use Rattle.text_lines.specs.Lines.{NumberedLine, kept_lines}
 use Rattle.text_lines.specs.Reading.{Say, IsFirstBroken, IsUnfinished}
@@ -8,14 +9,13 @@ use Rattle.memory_plan.specs.PlanText.{has_some}
 use Rattle.peripheral_run.specs.declared.fault.ScriptRule.TheVariants.{Form}
 use Rattle.text_lines.proofs.Readings.{IsReadTo, read_none, read_more, read_broken}
 use Rattle.memory_plan.specs.Images.{numbers}
-use Rattle.memory_plan.specs.Numbers.{same_text}
 use Rattle.viper_word.specs.declared.word.Word.{Word}
 use Rattle.peripheral_run.specs.Scripts.{Began, ScriptLine, State, Answer, state_shape, state_of_tokens, script_grammar, script_lines, state_of_line, answer_of_line, or_form}
 
 -- a line of one token says no state
 pub no_tokens : (word : List ℕ) → state_of_tokens (word ∷ []) ≡ None
 unfolding state_shape
-no_tokens word = by (same_text word _)
+no_tokens word = by (bytes_eq word _)
   where
     by : (b : Bool) → cond b (state_shape []) None ≡ None
     by true = refl

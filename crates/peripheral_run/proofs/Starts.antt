@@ -6,7 +6,8 @@ use Rattle.std.proofs.lemmas.Int.{to_z-of_z}
 use Rattle.std.proofs.lemmas.List.Elements.{recursion_from_All}
 use Rattle.std.proofs.lemmas.List.FromFn.{length-map-range_with_len, get_or-map-range_with_len}
 use Rattle.std.proofs.lemmas.Option.{none-some, same_Some}
-use Rattle.viper_word.proofs.Booleans.{chosen, cond_some}
+use Rattle.std.specs.Str.{bytes_eq}
+use Rattle.viper_word.proofs.Booleans.{chosen, guard_some}
 use Rattle.viper_word.proofs.SignedLemmas.{signed_fits, unsigned_below}
 use Rattle.viper_word.specs.Words.{IsWord, signed_value}
 use Rattle.viper_word.specs.Machine.{IsState}
@@ -16,17 +17,17 @@ use Rattle.text_lines.specs.Parts.{tokens_of, five, ◌>>=◌}
 use Rattle.text_lines.specs.Reading.{Say}
 use Rattle.memory_plan.specs.Hex.{hex_number}
 use Rattle.memory_plan.specs.Images.{word_at}
-use Rattle.memory_plan.specs.Numbers.{same_text}
 use Rattle.memory_plan.specs.Ranges.{Span}
 use Rattle.memory_plan.specs.Plans.{PlanLines, has_address, range_at, IsStart}
 use Rattle.memory_plan.specs.WellFormed.{IsWellFormed}
-use Rattle.memory_plan.proofs.PlanFits.{bound, hex_small, address_small}
+use Rattle.memory_plan.proofs.PlanFits.{hex_small, address_small}
 use Rattle.memory_plan.proofs.RangeIn.{low_is_in}
 use Rattle.memory_plan.proofs.RunsExist.{entry_fits, range_of, span_small}
 use Rattle.peripheral_run.specs.Scripts.{Began, Scripted, ScriptLine, State as StateLine, Answer, bit_of, state_shape, state_of_tokens, state_of_line, or_form, answer_of_line, script_grammar, script_lines, IsScript}
 use Rattle.peripheral_run.specs.ScriptRuns.{RunsOfScript}
 use Rattle.peripheral_run.proofs.ScriptRuns.{goes_over}
 use Rattle.peripheral_run.specs.Opening.{least_or, first_word, first_memory, opening}
+use Rattle.viper_word.proofs.Options.{bind_was}
 
 -- ---- what a state's line says is in bounds
 
@@ -39,22 +40,22 @@ record Fits (s : Began) : Type 0 where
 shape_fits : (tokens : List (List ℕ)) (s : Began) → state_shape tokens ≡ Some s → Fits s
 unfolding state_shape
 shape_fits tokens s h =
-    let t = bound (five tokens) _ s h in
-    let p = bound (hex_number 5 t.0.0) _ s t.2 in
-    let a = bound (hex_number 8 t.0.1) _ s p.2 in
-    let x = bound (hex_number 8 t.0.2) _ s a.2 in
-    let y = bound (hex_number 8 t.0.3) _ s x.2 in
-    let b = bound (bit_of t.0.4) _ s y.2 in
-    subst Fits (same_Some _ s b.2) (record {
-      p = address_small t.0.0 p.0 p.1;
-      a = hex_small 8 t.0.1 a.0 a.1;
-      x = hex_small 8 t.0.2 x.0 x.1;
-      y = hex_small 8 t.0.3 y.0 y.1;
+    let t = bind_was (five tokens) _ s h in
+    let p = bind_was (hex_number 5 t.first.0) _ s t.gives in
+    let a = bind_was (hex_number 8 t.first.1) _ s p.gives in
+    let x = bind_was (hex_number 8 t.first.2) _ s a.gives in
+    let y = bind_was (hex_number 8 t.first.3) _ s x.gives in
+    let b = bind_was (bit_of t.first.4) _ s y.gives in
+    subst Fits (same_Some _ s b.gives) (record {
+      p = address_small t.first.0 p.first p.is;
+      a = hex_small 8 t.first.1 a.first a.is;
+      x = hex_small 8 t.first.2 x.first x.is;
+      y = hex_small 8 t.first.3 y.first y.is;
     })
 
 tokens_fit : (tokens : List (List ℕ)) (s : Began) → state_of_tokens tokens ≡ Some s → Fits s
 tokens_fit [] s h = absurd (none-some s h)
-tokens_fit (word ∷ tokens) s h = shape_fits tokens s (cond_some (same_text word _) (state_shape tokens) s h).1
+tokens_fit (word ∷ tokens) s h = shape_fits tokens s (guard_some (bytes_eq word _) (state_shape tokens) s h).1
 
 said_state : (o : Option Began) (s : Began) → or_form (o >>= λ t. Some (StateLine t)) ≡ Ok (StateLine s) → o ≡ Some s
 said_state None s h = absurd cc

@@ -14,8 +14,8 @@ abbrev pub least_or : Option NumberRange → ℕ → ℕ
 least_or None w = w
 least_or (Some r) w = cast_unsigned w32 r.lo
 
--- what memory holds at an address: the image's word; in data that the image doesn't give, the least number
--- of the range; and else 0
+-- what memory holds at an address: the image's word; in data that the image doesn't give, the least
+-- number of the range; and else 0
 abbrev pub first_word : PlanLines → ℕ → ℕ
 first_word plan at = unwrap_or (word_at plan.image at) (least_or (range_at plan.«data» at) 0)
 

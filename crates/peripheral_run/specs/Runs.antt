@@ -27,13 +27,14 @@ abbrev pub may_answer : Option NumberRange → ℕ → Bool
 may_answer None w = true
 may_answer (Some r) w = range_has r (signed_value w)
 
--- the answer that step k is given and those that are left; or why it is given none. A step that reads no
--- peripheral uses none up.
+-- the answer that step k is given and those that are left; or why it is given none. A step that
+-- reads no peripheral uses none up.
 abbrev pub answer_for : PlanLines → ℕ → Option ℕ → List ℕ → Result (ℕ × List ℕ) RunEnd
 answer_for plan k None answers = Ok (0, answers)
 answer_for plan k (Some at) [] = Err (ScriptEnded k at)
 answer_for plan k (Some at) (w ∷ ws) =
-    if may_answer (range_at plan.inputs at) w then Ok (w, ws) else Err (OutOfRange k at (record { 0 = w }))
+    if may_answer (range_at plan.inputs at) w then Ok (w, ws)
+    else Err (OutOfRange k at (record { 0 = w }))
 
 -- step k told this and led to a state, from which the run goes on so
 abbrev pub with_step : ℕ → Effect → State → Outcome → Outcome
@@ -47,8 +48,8 @@ abbrev pub given_answer : Result (ℕ × List ℕ) RunEnd → State → (ℕ →
 given_answer (Err ending) s steps = ends ending s
 given_answer (Ok (w, left)) s steps = steps w left
 
--- The run of so many steps, the first of which has number k, over these answers: each step is given its
--- answer and leads to the next state, until a step stops the machine, or is given none.
+-- The run of so many steps, the first of which has number k, over these answers: each step is given
+-- its answer and leads to the next state, until a step stops the machine, or is given none.
 abbrev pub run_from : PlanLines → ℕ → ℕ → List ℕ → State → Outcome
 run_from plan zero k answers s = ends Ran s
 run_from plan (suc n) k answers s =

@@ -17,8 +17,8 @@ use Rattle.peripheral_run.specs.Runs.{Outcome, run_of}
 use Rattle.peripheral_run.specs.declared.running.RunEnd.{RunEnd}
 use Rattle.peripheral_run.specs.declared.running.RunEnd.TheVariants.{Ran, Stopped, ScriptEnded, OutOfRange}
 
--- how many steps were performed: all; those up to the one that stopped; those before the one that was
--- given no answer
+-- how many steps were performed: all; those up to the one that stopped; those before the one that
+-- was given no answer
 abbrev pub steps_performed : ℕ → RunEnd → ℕ
 steps_performed steps Ran = steps
 steps_performed steps (Stopped k cause) = k + 1
@@ -36,7 +36,8 @@ has_stopped (OutOfRange k at w) = false
 abbrev pub answers_read : List State → List ℕ → List ℕ
 answers_read [] answers = []
 answers_read (s ∷ ss) [] = []
-answers_read (s ∷ ss) (w ∷ ws) = if is_some (wants s) then w ∷ answers_read ss ws else answers_read ss ws
+answers_read (s ∷ ss) (w ∷ ws) =
+    if is_some (wants s) then w ∷ answers_read ss ws else answers_read ss ws
 
 -- what a step put out, in front of what those behind it put out
 abbrev pub out_before : ℕ → Effect → List Output → List Output
@@ -52,9 +53,10 @@ outputs_from profile k (s ∷ ss) [] = []
 outputs_from profile k (s ∷ ss) (w ∷ ws) =
     out_before k (effect_of profile s w) (outputs_from profile (k + 1) ss ws)
 
--- The outcome is that of a run of the plan: its states lead from the start to the state that is left, one
--- for each step that was performed; the steps that read took the script's answers in their order; the
--- outputs are those of the steps; and the machine has stopped exactly where the ending says so.
+-- The outcome is that of a run of the plan: its states lead from the start to the state that is
+-- left, one for each step that was performed; the steps that read took the script's answers in
+-- their order; the outputs are those of the steps; and the machine has stopped exactly where the
+-- ending says so.
 pub record IsRunOver (plan : PlanLines) (steps : ℕ) (script : List ℕ) (start : State) (o : Outcome)
     : Type 0 where
   pub states : List State

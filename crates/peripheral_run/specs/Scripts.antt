@@ -1,5 +1,6 @@
 -- Scripts: the state in which a machine begins, and what its peripherals answer.
 use Rattle.std.specs.Prelude.{◌≡◌, ℕ, Bool, true, false, List, [], ◌∷◌, map, Option, Some, None, Result, Ok, Err, IfSome, Contains, if◌then◌else◌, codes}
+use Rattle.std.specs.Str.{bytes_eq}
 use Rattle.viper_word.specs.Words.{signed_value}
 use Rattle.viper_word.specs.Ranges.{IsIn}
 use Rattle.viper_word.specs.declared.word.Word.{Word}
@@ -7,7 +8,6 @@ use Rattle.text_lines.specs.Lines.{NumberedLine, kept_lines, past_end}
 use Rattle.text_lines.specs.Parts.{tokens_of, five, ◌>>=◌}
 use Rattle.text_lines.specs.Reading.{Grammar, Say, Breaks}
 use Rattle.memory_plan.specs.Hex.{hex_number}
-use Rattle.memory_plan.specs.Numbers.{same_text}
 use Rattle.memory_plan.specs.Plans.{PlanLines}
 use Rattle.memory_plan.specs.PlanText.{has_some}
 use Rattle.line_text.specs.declared.digits.TheConstants.{ADDRESS_DIGITS, WORD_DIGITS}
@@ -44,8 +44,8 @@ pub data ScriptLine : Type 0 where
 -- `0` or `1`
 unfoldable pub bit_of : List ℕ → Option Bool
 bit_of text =
-    if same_text text (codes "0") then Some false
-    else if same_text text (codes "1") then Some true
+    if bytes_eq text (codes "0") then Some false
+    else if bytes_eq text (codes "1") then Some true
     else None
 
 -- P, A, X, Y and B in five tokens
@@ -62,7 +62,7 @@ state_shape tokens = do
 -- behind the token `state`
 abbrev pub state_of_tokens : List (List ℕ) → Option Began
 state_of_tokens [] = None
-state_of_tokens (word ∷ tokens) = if same_text word (codes "state") then state_shape tokens else None
+state_of_tokens (word ∷ tokens) = if bytes_eq word (codes "state") then state_shape tokens else None
 
 -- `state AAAAA WWWWWWWW WWWWWWWW WWWWWWWW B`
 abbrev pub state_of_line : List ℕ → Option Began
@@ -104,13 +104,14 @@ pub record AllowsState (starts : List Start) (s : Began) : Type 0 where
 
 -- ---- whole texts
 
--- The text is that of the script: its lines that aren't skipped say the state and then the answers, and
--- a start line of the plan allows the state.
+-- The text is that of the script: its lines that aren't skipped say the state and then the answers,
+-- and a start line of the plan allows the state.
 pub record IsScript (plan : PlanLines) (text : List ℕ) (script : Scripted) : Type 0 where
   pub said : Say script_grammar [] (kept_lines text) (script_lines script)
   pub allowed : AllowsState plan.starts script.state
 
--- Each line keeps Form, and no start line of the plan allows the state, which stands in the first line.
+-- Each line keeps Form, and no start line of the plan allows the state, which stands in the first
+-- line.
 pub record IsNoStart (plan : PlanLines) (text : List ℕ) (number : ℕ) : Type 0 where
   pub script : Scripted
   pub said : Say script_grammar [] (kept_lines text) (script_lines script)
@@ -119,8 +120,8 @@ pub record IsNoStart (plan : PlanLines) (text : List ℕ) (number : ℕ) : Type 
   pub others : List NumberedLine
   pub first : kept_lines text ≡ record { number = number; text = line } ∷ others
 
--- Form: the first line that isn't of its form; one past the last line where none states anything. Start: the
--- line of the state, where the whole text keeps Form.
+-- Form: the first line that isn't of its form; one past the last line where none states anything.
+-- Start: the line of the state, where the whole text keeps Form.
 abbrev pub BreaksRule : PlanLines → List ℕ → ℕ → ScriptRule → Type 0
 BreaksRule plan text line rules.Form =
     Breaks script_grammar has_some rules.Form (kept_lines text) (past_end text) line rules.Form

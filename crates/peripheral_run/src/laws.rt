@@ -2,7 +2,7 @@
 
 ghost use Rattle.std.specs.Prelude.{ℕ, List};
 ghost use Rattle.viper_word.specs.Machine.{State};
-ghost use Rattle.memory_plan.specs.OneReading.{HasOneReading};
+ghost use Rattle.text_lines.specs.Reading.{HasOneReading};
 ghost use Rattle.memory_plan.specs.Plans.{PlanLines};
 ghost use Rattle.peripheral_run.specs.Scripts.{Scripted, IsScript, script_fault};
 ghost use Rattle.peripheral_run.specs.ScriptRuns.{RunsFromStart, RunsOfScript};
