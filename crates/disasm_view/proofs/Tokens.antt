@@ -6,9 +6,9 @@ use Rattle.std.proofs.lemmas.Bool.Decides.{nat_tests}
 use Rattle.std.proofs.lemmas.List.Elements.{All-cons, All-append, All-push}
 use Rattle.std.proofs.lemmas.List.Folds.{list_any_none}
 use Rattle.std.proofs.lemmas.List.Splits.{slice_split_at, slice_split_none}
+use Rattle.std.specs.Str.{bytes_eq}
 use Rattle.viper_word.specs.Digits.{digit, digits, address_digits}
 use Rattle.text_lines.specs.Parts.{parts_of, tokens_of}
-use Rattle.memory_plan.specs.Numbers.{same_text}
 use Rattle.memory_plan.proofs.Written.{digits_read}
 use Rattle.field_asm.specs.Tokens.{is_lower, upper_number, begins_label}
 use Rattle.disasm_view.proofs.Named.{Without}
@@ -31,7 +31,7 @@ pub digits_are_no_label : (n : ℕ) → begins_label (address_digits n) ≡ fals
 unfolding digits
 digits_are_no_label n = digit_is_upper (n / 16 / 16 / 16 / 16 % 16) (omega arith)
 
-pub digits_are_no_plus : (n : ℕ) → same_text (address_digits n) (codes "+") ≡ false
+pub digits_are_no_plus : (n : ℕ) → bytes_eq (address_digits n) (codes "+") ≡ false
 unfolding digits
 digits_are_no_plus n = by (eqb (digit (n / 16 / 16 / 16 / 16 % 16)) 43)
   where
