@@ -1,6 +1,6 @@
 -- What giving a fact to a table leaves.
 use Rattle.std.proofs.Common.{◌≡◌, ℕ, suc, ◌+◌, ◌<◌, ◌≤◌, Bool, true, false, not, ◌||◌, Option, None, Some, IfSome, IsSomeAnd, List, [], ◌∷◌, ◌++◌, length, get_or, refl, sym, ap, subst, ◌∙◌, inl, inr, arith, length-append}
-use Rattle.std.proofs.lemmas.Bool.{false≢true, true≢false}
+use Rattle.std.proofs.lemmas.Bool.{not-false, not-true}
 use Rattle.std.proofs.lemmas.List.{get_or_append_left}
 use Rattle.flow_recover.specs.declared.key.Key.{Key}
 use Rattle.flow_recover.specs.Keys.{same_key}
@@ -11,14 +11,6 @@ use Rattle.fix_solver.specs.Rules.{Rules, RulesLaws, Fits}
 use Rattle.fix_solver.specs.Tables.{TableOf, IsPlace, fact_at, place, given, heights}
 use Rattle.fix_solver.specs.Work.{IsGiven}
 use Rattle.fix_solver.proofs.Given.{by_bool, if_true, if_false, of_cond, place-given, given-absent, given-included, heights_given, AllFit}
-
-pub not_false : (b : Bool) → not b ≡ false → b ≡ true
-not_false true h = refl
-not_false false h = absurd (true≢false h)
-
-pub not_true : (b : Bool) → not b ≡ true → b ≡ false
-not_true true h = absurd (false≢true h)
-not_true false h = refl
 
 module _ {F : Type 0} (r : Rules F) where
   pub length-given : (es : List (At F)) (e : At F) → IsSomeAnd (fact_at es e.key) (λ f. Unit {0}) → length (given r es e) ≡ length es
@@ -53,15 +45,15 @@ module _ {F : Type 0} (r : Rules F) where
         succ = λ j b. ap (λ l. get_or l j []) succ;
         number = at.number ∙ sym (place-given r t.known (record { key = k; fact = g }) k (λ f. Unit {0}) at.here) ∙ ap (λ l. place l k) (sym known);
         puts = by_bool changed (λ b. inr (puts b).0)
-            (λ b. let same : u.known ≡ t.known = known ∙ given-included r t.known (record { key = k; fact = g }) f s (not_false (r.includes f g) (sym c ∙ b)) in
+            (λ b. let same : u.known ≡ t.known = known ∙ given-included r t.known (record { key = k; fact = g }) f s (not-false (r.includes f g) (sym c ∙ b)) in
             inl ((λ j. record { known = same j; succ = succ j }), keeps b));
         paid = by_bool changed
-            (λ b. let falls = heights_given r laws t.known (record { key = k; fact = g }) f fit fits s (not_true (r.includes f g) (sym c ∙ b)) in
+            (λ b. let falls = heights_given r laws t.known (record { key = k; fact = g }) f fit fits s (not-true (r.includes f g) (sym c ∙ b)) in
             let room = (puts b).1 in
             let len : length u.known ≡ length t.known = ap length known ∙ length-given t.known (record { key = k; fact = g }) at.here in
             let lower : heights r u.known < heights r t.known = subst (λ l. heights r l < heights r t.known) (sym known) falls in
             inr (len, omega arith))
-            (λ b. let same : u.known ≡ t.known = known ∙ given-included r t.known (record { key = k; fact = g }) f s (not_false (r.includes f g) (sym c ∙ b)) in
+            (λ b. let same : u.known ≡ t.known = known ∙ given-included r t.known (record { key = k; fact = g }) f s (not-false (r.includes f g) (sym c ∙ b)) in
             let heights_same = ap (heights r) same in
             let left = ap length (keeps b) in
             inr (ap length same, omega arith));

@@ -1,6 +1,6 @@
 -- A key is taken, and what follows from its fact is given to the table, one after the other.
-use Rattle.std.proofs.Common.{◌≡◌, ℕ, zero, suc, ◌<◌, Bool, true, false, ◌||◌, Option, None, Some, IsSome, MatchOption, IfSome, IsSomeAnd, List, [], ◌∷◌, ◌++◌, length, map, set, take, get_or, slice_get, refl, sym, ap, subst, ◌∙◌, ◌⊎◌, inl, inr, ⊎_elim, arith}
-use Rattle.std.proofs.lemmas.Bool.{false≢true, true≢false}
+use Rattle.std.proofs.Common.{◌≡◌, ℕ, zero, suc, ◌<◌, true, false, ◌||◌, Option, None, Some, IsSome, MatchOption, IfSome, IsSomeAnd, List, [], ◌∷◌, ◌++◌, length, map, set, take, get_or, slice_get, refl, sym, ap, subst, ◌∙◌, ◌⊎◌, inl, inr, ⊎_elim, arith}
+use Rattle.std.proofs.lemmas.Bool.{false≢true, true≢false, or_right}
 use Rattle.std.proofs.lemmas.List.{map-append, get_or-set_other, get_or-set_same}
 use Rattle.std.specs.List.{AllByRecursion}
 use Rattle.flow_recover.specs.declared.key.Key.{Key}
@@ -15,6 +15,7 @@ use Rattle.fix_solver.specs.Work.{IsDone, IsWork, IsForced, IsGiven, IsPaid}
 use Rattle.fix_solver.proofs.Given.{by_bool, if_true, if_false, fact_at-given_other, place-given, place-below, all_through, included_given, fit_at, grows}
 use Rattle.fix_solver.proofs.TableLemmas.{at_place}
 use Rattle.fix_solver.proofs.Working.{outcomes_forced, places-given, work-given}
+use Rattle.viper_word.proofs.Booleans.{or_swap}
 
 -- what holds of all elements holds of one
 pub all_at : {A : Type 0} (P : A → Type 0) (xs : List A) (i : ℕ) (x : A) → AllByRecursion P xs → slice_get xs i ≡ Some x → P x
@@ -48,16 +49,6 @@ pub known_fact : {F : Type 0} (es : List (At F)) (k : Key) (i : ℕ) (f : F) →
 known_fact es k i f p h =
     let d : At _ = record { key = k; fact = f } in
     (at_place es k d p.here).1 ∙ ap (λ n. Some (get_or es n d).fact) (sym p.number) ∙ ap (λ g. Some g) (sym (h d))
-
-or_swap : (a b c : Bool) → (a || (b || c)) ≡ (b || (a || c))
-or_swap true true c = refl
-or_swap true false c = refl
-or_swap false true c = refl
-or_swap false false c = refl
-
-pub or_right : (a b : Bool) → b ≡ true → (a || b) ≡ true
-or_right true b h = refl
-or_right false b h = h
 
 module _ {F : Type 0} (r : Rules F) where
   pub map_trans : (laws : RulesLaws r) (l m n : Key → Option F) → MapBelow r l m → MapBelow r m n → MapBelow r l n

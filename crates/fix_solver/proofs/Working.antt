@@ -1,6 +1,6 @@
 -- The steps of the search keep what holds of the table, and what it means in the end.
 use Rattle.std.proofs.Common.{◌≡◌, ℕ, ◌<◌, Bool, true, false, ◌||◌, Option, None, Some, IfSome, IsSomeAnd, List, [], ◌∷◌, ◌++◌, length, map, get_or, refl, sym, ap, subst, ◌∙◌}
-use Rattle.std.proofs.lemmas.Bool.{true≢false}
+use Rattle.std.proofs.lemmas.Bool.{true≢false, or_parts}
 use Rattle.std.specs.List.{AllByRecursion}
 use Rattle.abs_step.specs.declared.outcome.Cond.{Cond}
 use Rattle.flow_recover.specs.declared.key.Key.{Key}
@@ -15,10 +15,6 @@ use Rattle.fix_solver.specs.declared.fault.SolveFault.TheVariants.{Undischarged,
 use Rattle.fix_solver.specs.Faults.{IsTrueFault}
 use Rattle.fix_solver.specs.Work.{IsFull, IsWork, IsForced}
 use Rattle.fix_solver.proofs.Given.{by_bool, if_true, of_cond, fact_at-given_same, fact_at-given_other, place-given, place-below, all_through, all_larger_included, fit_given, grows, least_given, fit_at}
-
-pub or_false : (a b : Bool) → (a || b) ≡ false → (a ≡ false) × (b ≡ false)
-or_false true b h = absurd (true≢false h)
-or_false false b h = (refl, h)
 
 module _ {F : Type 0} (r : Rules F) (laws : RulesLaws r) where
   -- what follows from a fact of the table stands in every candidate
@@ -43,7 +39,7 @@ module _ {F : Type 0} (r : Rules F) (laws : RulesLaws r) where
     listed = λ k h. listed k (sym (puts k) ∙ h);
     least = λ n c. least_given r laws t.known e n (w.least n c) (forced n c);
     done = λ k f closed at.
-        let parts = or_false (same_key e.key k) (p k) (sym (puts k) ∙ closed) in
+        let parts = or_parts (same_key e.key k) (p k) (sym (puts k) ∙ closed) in
         let apart : same_key k e.key ≡ false = same_key-symm k e.key ∙ parts.0 in
         let was : fact_at t.known k ≡ Some f = sym (fact_at-given_other r t.known e k apart) ∙ at in
         let d = w.done k f parts.1 was in

@@ -16,7 +16,8 @@ abbrev pub AllHave : {T : Type 0} → ℕ → List (OutcomeOf T) → Type 0
 AllHave n os = AllByRecursion (HasSoMany n) os
 
 -- the target and what arrives there are those of the outcome
-abbrev pub Arrives : {T : Type 0} → Domain T → List ℤ → ℕ → Option (OutcomeOf T) → ℕ → FactOf T → Type 0
+abbrev pub Arrives : {T : Type 0} → Domain T → List ℤ → ℕ → Option (OutcomeOf T) → ℕ → FactOf T
+    → Type 0
 Arrives d t at o target f = IsSomeAnd o (λ o. (target ≡ o.target) × (f ≡ arriving d t at o))
 
 -- all parts have so many cells

@@ -50,9 +50,11 @@ pub record RulesLaws {F : Type 0} (r : Rules F) : Type 0 where
   pub join_left : (f g : F) → Fits r f → Fits r g → Below r f (r.join f g)
   pub join_right : (f g : F) → Fits r f → Fits r g → Below r g (r.join f g)
   pub join_least : (f g h : F) → Below r f h → Below r g h → Below r (r.join f g) h
-  pub height_falls : (f g : F) → Fits r f → Below r f g → r.includes f g ≡ false → r.height g < r.height f
+  pub height_falls : (f g : F) → Fits r f → Below r f g → r.includes f g ≡ false
+      → r.height g < r.height f
   pub starts_fit : AllByRecursion (λ e. Fits r e.fact) r.starts
-  pub outcomes_fit : (k : Key) (f : F) → Fits r f → AllByRecursion (λ e. Fits r e.fact) (r.outcomes k f)
+  pub outcomes_fit : (k : Key) (f : F) → Fits r f
+      → AllByRecursion (λ e. Fits r e.fact) (r.outcomes k f)
   pub outcomes_grow : (k : Key) (f g : F) → Fits r f → Below r f g
       → AllBelow r (r.outcomes k f) (r.outcomes k g)
   pub keeps_falls : (k : Key) (f g : F) (c : Cond) → Fits r f → Below r f g

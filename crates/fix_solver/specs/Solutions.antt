@@ -48,7 +48,8 @@ module _ {F : Type 0} (r : Rules F) where
 
   -- the condition fails at the key in every candidate
   abbrev pub FailsEverywhere : Key → Cond → Type 0
-  FailsEverywhere k c = (n : Key → Option F) → IsCandidate n → IsSomeAnd (n k) (λ f. r.keeps k f c ≡ false)
+  FailsEverywhere k c =
+      (n : Key → Option F) → IsCandidate n → IsSomeAnd (n k) (λ f. r.keeps k f c ≡ false)
 
 -- ---- the rules of a plan, over cells and thresholds
 
@@ -57,8 +58,8 @@ abbrev pub fields_at : PlanLines → ℕ → Fields
 fields_at plan at = fields_of (unwrap_or (code_word plan at) 0)
 
 module _ {T : Type 0} (d : Domain T) where
-  -- what arrives at an outcome's target: the fact after the step, rounded where the target isn't above
-  -- the address
+  -- what arrives at an outcome's target: the fact after the step, rounded where the target isn't
+  -- above the address
   abbrev pub arriving : List ℤ → ℕ → OutcomeOf T → FactOf T
   arriving t at o = cond (nat_le o.target at) (round d t o.after) o.after
 

@@ -17,7 +17,8 @@ module _ {F : Type 0} (r : Rules F) where
   pub record IsDone (t : TableOf F) (k : Key) (f : F) : Type 0 where
     pub no_fault : r.fault k f ≡ None
     pub included : AllByRecursion (Included r (fact_at t.known)) (r.outcomes k f)
-    pub succ : slice_index_or t.succ (place t.known k) [] ≡ map (λ e. place t.known e.key) (r.outcomes k f)
+    pub succ : slice_index_or t.succ (place t.known k) []
+        ≡ map (λ e. place t.known e.key) (r.outcomes k f)
 
   -- each fact stands in every candidate, and all that aren't pending are done
   pub record IsWork (t : TableOf F) (pending : Key → Bool) : Type 0 where
@@ -44,7 +45,8 @@ module _ {F : Type 0} (r : Rules F) where
   pub record IsGiven (t : TableOf F) (p : List Key) (e : At F)
       (u : TableOf F) (q : List Key) (n : ℕ) : Type 0 where
     pub known : u.known ≡ given r t.known e
-    pub succ : (i : ℕ) → i < length t.known → slice_index_or u.succ i [] ≡ slice_index_or t.succ i []
+    pub succ : (i : ℕ) → i < length t.known
+        → slice_index_or u.succ i [] ≡ slice_index_or t.succ i []
     pub puts : ((u ≡ t) × (q ≡ p)) ⊎ ((k : Key) → is_pending q k ≡ (same_key e.key k || is_pending p k))
     pub paid : IsPaid t p u q
     pub number : n ≡ place u.known e.key

@@ -12,7 +12,7 @@ use Rattle.viper_word.specs.declared.reg.Reg.{Reg}
 use Rattle.viper_word.specs.declared.reg.Reg.TheVariants.{Y}
 use Rattle.memory_plan.specs.Plans.{PlanLines}
 use Rattle.flag_relation.specs.declared.link.Link.{Link}
-use Rattle.flag_relation.specs.Values.{Values, Pairwise}
+use Rattle.flag_relation.specs.Values.{Values}
 use Rattle.flag_relation.specs.Facts.{FactOf, values}
 use Rattle.flag_relation.specs.Order.{BelowValues}
 use Rattle.flag_relation.specs.Refining.{assume}
@@ -34,12 +34,8 @@ use Rattle.abs_step.specs.Stores.{Spot, spot, stored, store_one, store_several, 
 use Rattle.abs_step.specs.Outcomes.{flag_set, assigned, linked, linked_posts, jumps, is_target, taken_side, skipped_side, performed, instruction_outcomes}
 use Rattle.abs_step.specs.Conditions.{instruction_at, outcomes_at, outcomes}
 use Rattle.fix_solver.specs.Rooms.{AllHave}
-
-pub same_length : {T U : Type 0} (R : T → U → Type 0) (ts : List T) (us : List U) → Pairwise R ts us → length ts ≡ length us
-same_length R [] [] h = refl
-same_length R [] (u ∷ us) h = absurd h
-same_length R (t ∷ ts) [] h = absurd h
-same_length R (t ∷ ts) (u ∷ us) h = ap suc (same_length R ts us h.1)
+use Rattle.viper_word.proofs.Options.{all_unit}
+use Rattle.flag_relation.proofs.ValueLemmas.{pairwise_length}
 
 both_have : {T : Type 0} (n : ℕ) (os ps : List (OutcomeOf T)) → AllHave n os → AllHave n ps → AllHave n (os ++ ps)
 both_have n [] ps h k = k
@@ -48,10 +44,6 @@ both_have n (o ∷ os) ps h k = (h.0, both_have n os ps h.1 k)
 each_has : {T U : Type 0} (n : ℕ) (o : Option U) (f : U → List (OutcomeOf T)) (P : U → Type 0) → IfSome o P → ((u : U) → P u → AllHave n (f u)) → AllHave n (each o f)
 each_has n None f P h k = tt
 each_has n (Some u) f P h k = k u h
-
-any_of : {U : Type 0} (o : Option U) → IfSome o (λ _. Unit {0})
-any_of None = tt
-any_of (Some u) = tt
 
 when_has : {T : Type 0} (n : ℕ) (b : Bool) (os : List (OutcomeOf T)) → AllHave n os → AllHave n (cond b os [])
 when_has n true os h = h
@@ -129,7 +121,7 @@ module _ {T : Type 0} (d : Domain T) where
   unfolding stored
   stored_have cells at f s p q =
       both_have (length f.cells) _ _
-      (each_has (length f.cells) q.one _ (λ _. Unit {0}) (any_of q.one) (λ n _. outcome_has (at + 1) f _ _ (length f.cells) (store_one_has at f s (find_cell cells n))))
+      (each_has (length f.cells) q.one _ (λ _. Unit {0}) (all_unit q.one) (λ n _. outcome_has (at + 1) f _ _ (length f.cells) (store_one_has at f s (find_cell cells n))))
       (when_has (length f.cells) q.several _ (outcome_has (at + 1) f _ _ (length f.cells) (store_several_has (addressed d p (values f)) cells at f s)))
 
   -- ---- the instruction
@@ -137,13 +129,13 @@ module _ {T : Type 0} (d : Domain T) where
   performed_have : (plan : PlanLines) (cells : List ℕ) (at : ℕ) (i : Instruction) (f : FactOf T) → AllHave (length f.cells) (performed d plan cells at i f)
   unfolding performed
   performed_have plan cells at (Compare joined k s o) f =
-      each_has (length f.cells) (operand_value d plan cells (values f) o) _ (λ _. Unit {0}) (any_of (operand_value d plan cells (values f) o))
+      each_has (length f.cells) (operand_value d plan cells (values f) o) _ (λ _. Unit {0}) (all_unit (operand_value d plan cells (values f) o))
       (λ v _. outcome_has (at + 1) f _ _ (length f.cells) refl)
   performed_have plan cells at (Assign r w) f =
-      each_has (length f.cells) (result_value d plan cells at (values f) f.flag w) _ (λ _. Unit {0}) (any_of (result_value d plan cells at (values f) f.flag w))
+      each_has (length f.cells) (result_value d plan cells at (values f) f.flag w) _ (λ _. Unit {0}) (all_unit (result_value d plan cells at (values f) f.flag w))
       (λ v _. outcome_has (at + 1) f _ _ (length f.cells) (assigned_has plan.profile cells f r w v))
   performed_have plan cells at (Jump side w) f =
-      each_has (length f.cells) (result_value d plan cells at (values f) f.flag w) _ (λ _. Unit {0}) (any_of (result_value d plan cells at (values f) f.flag w))
+      each_has (length f.cells) (result_value d plan cells at (values f) f.flag w) _ (λ _. Unit {0}) (all_unit (result_value d plan cells at (values f) f.flag w))
       (λ v _. jumps_have plan cells at (is_call w) f v)
   performed_have plan cells at (Output s p) f =
       when_has (length f.cells) _ _ (outcome_has (at + 1) f f _ (length f.cells) refl)
@@ -162,7 +154,7 @@ module _ {T : Type 0} (d : Domain T) where
       where
         by : (o : Option (FactOf T)) → IfSome o (λ g. BelowValues d (values g) (values f) × (g.links ≡ f.links)) → IfSome (bind o (live d)) (λ g. length g.cells ≡ length f.cells)
         by None h = tt
-        by (Some g) h = live_has (length f.cells) g (same_length (Below d) g.cells f.cells h.0.cells)
+        by (Some g) h = live_has (length f.cells) g (pairwise_length (Below d) g.cells f.cells h.0.cells)
 
     taken_has : (i : Instruction) (f : FactOf T) → IfSome (taken_side d i f) (λ g. length g.cells ≡ length f.cells)
     unfolding taken_side

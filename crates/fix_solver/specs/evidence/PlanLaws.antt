@@ -3,7 +3,6 @@ use Rattle.std.specs.Prelude.{◌≡◌, ℕ, ℤ, Bool, true, false, cond, nat_
 use Rattle.std.proofs.Common.{refl, sym, ap, subst, ◌∙◌, inl, inr}
 use Rattle.std.proofs.lemmas.Bool.{eq-eqb, eqb-true}
 use Rattle.std.proofs.lemmas.List.{length-map, length-replicate}
-use Rattle.std.proofs.lemmas.Option.{none-some}
 use Rattle.std.specs.List.{AllByRecursion}
 use Rattle.num_domain.specs.Domain.{Domain, Below as BelowValue}
 use Rattle.num_domain.specs.Laws.{DomainLaws}
@@ -21,7 +20,7 @@ use Rattle.abs_step.specs.declared.outcome.Cond.TheVariants.{H1, H2, C1, C2, C3,
 use Rattle.abs_step.specs.Starts.{start_fact, cell_at}
 use Rattle.abs_step.specs.OutcomeLists.{OutcomeOf}
 use Rattle.abs_step.specs.Laws.{AllBelow as AllOutcomesBelow, SomeAbove}
-use Rattle.abs_step.specs.Conditions.{keeps, fault, outcomes, unless, if_there, instruction_at, instruction_keeps, side_keeps}
+use Rattle.abs_step.specs.Conditions.{keeps, fault, outcomes, if_there, instruction_at, instruction_keeps, side_keeps}
 use Rattle.abs_step.proofs.AllStepLaws.{step_laws}
 use Rattle.flow_recover.specs.declared.key.Key.{Key}
 use Rattle.flow_recover.specs.Cells.{cells_of}
@@ -31,12 +30,9 @@ use Rattle.fix_solver.specs.declared.at.At.{At}
 use Rattle.fix_solver.specs.Rules.{Rules, RulesLaws, AllBelow, HasLarger, Below, Fits, Included}
 use Rattle.fix_solver.specs.Solutions.{IsCandidate, fields_at, arriving, arrival, start_at, rules_over, plan_rules, all_unknown}
 use Rattle.fix_solver.specs.Rooms.{AllHave}
-use Rattle.fix_solver.specs.evidence.OutcomeCells.{same_length, outcomes_have}
-
--- a condition of a chain that names none holds, and so does the rest
-unless_none : (b : Bool) (c : Cond) (o : Option Cond) → unless b c o ≡ None → (b ≡ true) × (o ≡ None)
-unless_none true c o h = (refl, h)
-unless_none false c o h = absurd (none-some c (sym h))
+use Rattle.fix_solver.specs.evidence.OutcomeCells.{outcomes_have}
+use Rattle.abs_step.proofs.FaultLaws.{unless_none}
+use Rattle.flag_relation.proofs.ValueLemmas.{pairwise_length}
 
 module _ {T : Type 0} (d : Domain T) where
   there_true : {A : Type 0} (o : Option A) (p : A → Bool) → ((a : A) → p a ≡ true) → if_there d o p ≡ true
@@ -109,7 +105,7 @@ module _ {T : Type 0} (d : Domain T) (laws : DomainLaws d) (plan : PlanLines) (c
   starts_fit (s ∷ ss) = (fits_from (start_fact d plan cells s) (started s), starts_fit ss)
 
   rounded : (b : Bool) (f : FactOf T) → length (cond b (round d t f) f).cells ≡ length f.cells
-  rounded true f = sym (same_length (BelowValue d) f.cells (round d t f).cells ((fact_laws d laws).rounding.above f t).values.cells)
+  rounded true f = sym (pairwise_length (BelowValue d) f.cells (round d t f).cells ((fact_laws d laws).rounding.above f t).values.cells)
   rounded false f = refl
 
   arrivals_fit : (n : ℕ) (k : Key) (os : List (OutcomeOf T)) → n ≡ length cells → AllHave n os → AllByRecursion (λ e. Fits over e.fact) (map (arrival d plan t k) os)
