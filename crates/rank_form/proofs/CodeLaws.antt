@@ -3,7 +3,7 @@ use Rattle.std.specs.Prelude.{◌≡◌, ℕ, zero, suc, ◌+◌, ◌<◌, ◌�
 use Rattle.std.proofs.Common.{refl, arith, sym, ◌∙◌, ap, subst}
 use Rattle.std.proofs.Math.Path.{ap₂}
 use Rattle.std.proofs.lemmas.Int.{ints}
-use Rattle.std.proofs.lemmas.Bool.{and_parts}
+use Rattle.std.proofs.lemmas.Bool.{and_parts, lt-ltb, leb-true}
 use Rattle.num_domain.specs.Domain.{Domain}
 use Rattle.viper_word.specs.declared.reg.Reg.TheVariants.{A, X, Y}
 use Rattle.flag_relation.specs.declared.link.Link.{Link}
@@ -44,14 +44,8 @@ sum_within n m g h q p =
       below_within n (λ i. g (Cell i)) (λ i. h (Cell i)) (λ i r. p (Cell i) (omega arith)),
     )
 
-inside_test : (i n : ℕ) → i < n → nat_lt i n ≡ true
-inside_test i n h = grind arith
-
 past_test : (i n : ℕ) → n ≤ i → nat_lt i n ≡ false
 past_test i n h = grind arith
-
-at_least : (k j : ℕ) → nat_le k j ≡ true → k ≤ j
-at_least k j h = grind arith
 
 other_test : (i j : ℕ) → j < i → nat_eq i j ≡ false
 other_test i j h = grind arith
@@ -84,7 +78,7 @@ sum_in n g h p =
       p (Reg A) refl,
       p (Reg X) refl,
       p (Reg Y) refl,
-      below_within n (λ i. g (Cell i)) (λ i. h (Cell i)) (λ i r. p (Cell i) (inside_test i n r)),
+      below_within n (λ i. g (Cell i)) (λ i. h (Cell i)) (λ i r. p (Cell i) (lt-ltb i n r)),
     )
 
 module _ {T : Type 0} (d : Domain T) where
@@ -175,7 +169,7 @@ module _ {T : Type 0} (d : Domain T) where
   rate_past k (t ∷ ts) v h p =
       let q = and_parts (nat_le k (var_number t.0) && is_coefficient t.1) (are_terms (var_number t.0 + 1) ts) h in
       let r = and_parts (nat_le k (var_number t.0)) (is_coefficient t.1) q.0 in
-      let o = at_least k (var_number t.0) r.0 in
+      let o = leb-true k (var_number t.0) r.0 in
       omega (arith, ints, ap (λ (b : Bool). t.1 *ℤ cond b (pos 1) (pos 0)) (other_test (var_number t.0) (var_number v) (omega arith)), times_zero t.1, rate_past (var_number t.0 + 1) ts v q.1 (omega arith))
 
   -- a sum over variables of something of their coefficients, by the terms

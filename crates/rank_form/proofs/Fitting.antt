@@ -3,7 +3,7 @@ use Rattle.std.specs.Prelude.{◌≡◌, ℕ, zero, suc, ◌+◌, ◌*◌, ◌^�
 use Rattle.std.specs.Ordering.{int_eq}
 use Rattle.std.proofs.Common.{refl, arith, sym, ◌∙◌, ap, subst, ◌⊎◌, inl, inr}
 use Rattle.std.proofs.lemmas.Int.{ints, unsigned_abs-mul}
-use Rattle.std.proofs.lemmas.Bool.{and_parts, and_from}
+use Rattle.std.proofs.lemmas.Bool.{and_parts, and_from, le-leb}
 use Rattle.viper_word.proofs.Integers.{true_le}
 use Rattle.std.proofs.lemmas.Bool.Decides.{nat_tests}
 use Rattle.viper_word.specs.Words.{IsSigned}
@@ -73,9 +73,6 @@ module _ {T : Type 0} (d : Domain T) (laws : DomainLaws d) where
 
 lower_test : (j k n : ℕ) → j ≤ k → nat_le k n ≡ true → nat_le j n ≡ true
 lower_test j k n h e = grind (arith, nat_tests)
-
-le_test : (k n : ℕ) → k ≤ n → nat_le k n ≡ true
-le_test k n h = grind (arith, nat_tests)
 
 same_test : (k n : ℕ) → n ≡ k → nat_le k n ≡ true
 same_test k n e = grind (arith, nat_tests)
@@ -167,7 +164,7 @@ one_step : (r c : ℤ) (j i k : ℕ) → i ≡ k → one_of ((c *ℤ cond (nat_e
 one_step r c j i k e = elim (three j k) [
   | inl same ↦
       let x : cond (nat_le (suc k) j) 1 0 ≡ 0 = ap (λ (b : Bool). cond {A = ℕ} b 1 0) (past_le (suc k) j (omega arith)) in
-      let y : cond (nat_le k j) 1 0 ≡ 1 = ap (λ (b : Bool). cond {A = ℕ} b 1 0) (le_test k j (omega arith)) in
+      let y : cond (nat_le k j) 1 0 ≡ 1 = ap (λ (b : Bool). cond {A = ℕ} b 1 0) (le-leb k j (omega arith)) in
       omega (arith, one_bit_by (int_eq ((c *ℤ cond (nat_eq j i) (pos 1) (pos 0)) +ℤ r) (pos 0)), x, y)
   | inr other ↦
       let z : (c *ℤ cond (nat_eq j i) (pos 1) (pos 0)) +ℤ r ≡ r = ap (λ (b : Bool). (c *ℤ cond b (pos 1) (pos 0)) +ℤ r) (unequal j i k e other.0) ∙ unchanged c r in
@@ -198,4 +195,4 @@ ordered_few ts k m = omega (arith, from_count (rate ts) k m, ones_few ts k m)
 pub makes_form : (k : ℤ) (ts : List (Var × ℤ)) → unsigned_abs k ≤ 2 ^ 77 → length ts ≤ 8 → are_terms 0 ts ≡ true → form_of k ts ≡ Some (record { constant = k; terms = ts })
 makes_form k ts h few e =
     ap (λ (b : Bool). (if b then Some (record { constant = k; terms = ts }) else None))
-    (and_from _ _ (and_from _ _ (le_test (length ts) 8 few) (within_test k h)) e)
+    (and_from _ _ (and_from _ _ (le-leb (length ts) 8 few) (within_test k h)) e)

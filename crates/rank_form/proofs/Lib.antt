@@ -19,3 +19,4 @@ pub mod Pushing
 pub mod Ordering
 pub mod Fitting
 pub mod AfterForms
+pub mod Numbers

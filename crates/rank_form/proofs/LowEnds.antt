@@ -1,12 +1,10 @@
 -- The least value of a directed variable is small.
-use Rattle.std.specs.Prelude.{◌≡◌, ℕ, zero, suc, ◌+◌, ◌*◌, ◌^◌, ◌≤◌, nat_eq, ℤ, pos, neg_ℤ, ◌+ℤ◌, ◌*ℤ◌, cond, Bool, true, false, unsigned_abs, List, [], ◌∷◌, length, Option, Some, None, IfSome}
-use Rattle.std.proofs.Common.{refl, arith, sym, ap, subst}
+use Rattle.std.specs.Prelude.{◌≡◌, ℕ, zero, suc, ◌+◌, ◌*◌, ◌^◌, ◌≤◌, ℤ, pos, neg_ℤ, ◌+ℤ◌, ◌*ℤ◌, cond, Bool, true, false, unsigned_abs, length, Option, Some, None, IfSome}
+use Rattle.std.proofs.Common.{arith}
 use Rattle.std.proofs.lemmas.Int.{ints}
-use Rattle.viper_word.specs.Words.{IsSigned}
 use Rattle.viper_word.specs.declared.reg.Reg.TheVariants.{A, X, Y}
 use Rattle.num_domain.specs.Domain.{Domain}
 use Rattle.num_domain.specs.Laws.{DomainLaws}
-use Rattle.num_domain.specs.Ends.{Ends}
 use Rattle.num_domain.proofs.EndsLaws.{ends_in_w}
 use Rattle.flag_relation.specs.declared.link.Link.{Link}
 use Rattle.flag_relation.specs.declared.var.Var.{Var}

@@ -1,5 +1,5 @@
 -- The terms of a form in order, from coefficients in a list.
-use Rattle.std.specs.Prelude.{◌≡◌, ℕ, zero, suc, ◌+◌, ◌<◌, ◌≤◌, nat_eq, nat_le, ℤ, pos, neg_ℤ, ◌+ℤ◌, ◌*ℤ◌, cond, Bool, true, false, ◌&&◌, List, [], ◌∷◌, ◌++◌, length, replicate, Option, Some, None, if◌then◌else◌}
+use Rattle.std.specs.Prelude.{◌≡◌, ℕ, zero, suc, ◌+◌, ◌<◌, ◌≤◌, nat_le, ℤ, pos, neg_ℤ, ◌+ℤ◌, ◌*ℤ◌, cond, Bool, true, false, ◌&&◌, List, [], ◌∷◌, ◌++◌, length, replicate, Option, Some, None, if◌then◌else◌}
 use Rattle.std.specs.Option.{IsSome}
 use Rattle.std.proofs.lemmas.Option.{none-some}
 use Rattle.std.proofs.Common.{rules, refl, arith, sym, ◌∙◌, ap, subst}
@@ -19,6 +19,7 @@ use Rattle.rank_form.proofs.Pushing.{eq_zero}
 use Rattle.rank_form.proofs.Products.{times_zero}
 use Rattle.rank_form.proofs.Rating.{put_at, spread_zeros, spread_length}
 use Rattle.std.proofs.lemmas.List.{length-replicate}
+use Rattle.rank_form.proofs.Summing.{test_other}
 
 from_agree : (g h : Var → ℤ) (k m : ℕ) → ((i : ℕ) → i < k + m → g (var_at i) ≡ h (var_at i)) → terms_from g k m ≡ terms_from h k m
 unfolding terms_from
@@ -39,15 +40,12 @@ from_more g k zero n h e = from_none g k n (λ i p. e i (omega arith))
 from_more g k (suc m) zero h e = absurd (omega arith)
 from_more g k (suc m) (suc n) h e = ap (λ us. term_of (var_at k) (g (var_at k)) ++ us) (from_more g (suc k) m n (omega arith) (λ i p. e i (omega arith)))
 
-other_below : (i j : ℕ) → i < j → nat_eq i j ≡ false
-other_below i j h = grind arith
-
 pub rate_beyond : (ts : List (Var × ℤ)) (i : ℕ) → past ts ≤ i → rate ts (var_at i) ≡ pos 0
 unfolding weigh
 rate_beyond [] i h = refl
 rate_beyond (t ∷ ts) i h =
     let lt : var_number t.0 < var_number (var_at i) = subst (λ (j : ℕ). var_number t.0 < j) (sym (number_var i)) (past_head t ts i h) in
-    omega (arith, ints, ap (λ (b : Bool). t.1 *ℤ cond b (pos 1) (pos 0)) (other_below (var_number t.0) (var_number (var_at i)) lt), times_zero t.1, rate_beyond ts i (past_tail t ts i h))
+    omega (arith, ints, ap (λ (b : Bool). t.1 *ℤ cond b (pos 1) (pos 0)) (test_other (var_number t.0) (var_number (var_at i)) lt), times_zero t.1, rate_beyond ts i (past_tail t ts i h))
 
 -- what a list of coefficients gives is the terms in order
 pub ordered_is : (rs : List ℤ) (ts : List (Var × ℤ)) (n : ℕ) → past ts ≤ n → ((v : Var) → var_number v < n → rate_at rs v ≡ rate ts v) → terms_from (rate_at rs) 0 n ≡ terms_from (rate ts) 0 (past ts)

@@ -2,16 +2,13 @@
 use Rattle.std.specs.Prelude.{◌≡◌, ℕ, ◌+◌, Bool, true, false, not, cond, List, [], ◌∷◌, ◌++◌, Option, Some, None, IfSome}
 use Rattle.std.specs.List.{AllByRecursion, flat_map}
 use Rattle.std.proofs.Common.{refl, sym, subst}
-use Rattle.std.proofs.lemmas.Bool.{false≢true}
 use Rattle.num_domain.specs.Domain.{Domain}
 use Rattle.num_domain.specs.Laws.{DomainLaws}
 use Rattle.viper_word.specs.Options.{bind}
 use Rattle.memory_plan.specs.Plans.{PlanLines}
 use Rattle.viper_decode.specs.declared.instructions.Instruction.{Instruction}
 use Rattle.viper_decode.specs.declared.instructions.Instruction.TheVariants.{Compare, Assign, Jump, Output, Store}
-use Rattle.viper_decode.specs.declared.instructions.Side.{Side}
 use Rattle.viper_decode.specs.declared.instructions.Side.TheVariants.{Always, IfB, IfNotB}
-use Rattle.viper_decode.specs.declared.instructions.Work.{Work}
 use Rattle.flag_relation.specs.Values.{Values}
 use Rattle.flag_relation.specs.Facts.{FactOf, values}
 use Rattle.flag_relation.specs.Order.{BelowValues}

@@ -1,9 +1,10 @@
 -- What stands in a list of coefficients once terms were added.
-use Rattle.std.specs.Prelude.{◌≡◌, ℕ, zero, suc, ◌+◌, ◌*◌, ◌<◌, ◌≤◌, ℤ, pos, ◌+ℤ◌, ◌*ℤ◌, unsigned_abs, cond, nat_eq, Bool, true, false, List, [], ◌∷◌, length, replicate, Option}
+use Rattle.std.specs.Prelude.{◌≡◌, ℕ, zero, suc, ◌+◌, ◌*◌, ◌<◌, ◌≤◌, ℤ, pos, ◌+ℤ◌, ◌*ℤ◌, unsigned_abs, cond, nat_eq, Bool, false, List, [], ◌∷◌, length, replicate, Option}
 use Rattle.std.proofs.Common.{refl, arith, sym, ◌∙◌, ap, subst, set, get_or, ◌⊎◌, inl, inr}
 use Rattle.std.proofs.lemmas.Int.{ints}
 use Rattle.std.proofs.lemmas.List.{get_or-set_other, get_or_past, length-set, length-replicate}
 use Rattle.std.proofs.lemmas.Grind.{get_or-set_at}
+use Rattle.std.proofs.lemmas.Bool.{eq-eqb}
 use Rattle.flag_relation.specs.declared.link.Link.{Link}
 use Rattle.flag_relation.specs.declared.var.Var.{Var}
 use Rattle.flag_relation.specs.Values.{Values, Regs}
@@ -17,9 +18,6 @@ use Rattle.rank_form.specs.Rates.{AreSmall, IsBelow, rate_at, put, spread}
 same_or_not : (i j : ℕ) → (i ≡ j) ⊎ ((i ≡ j → ⊥) × (nat_eq i j ≡ false))
 same_or_not i j = grind arith
 
-equal_test : (i j : ℕ) → i ≡ j → nat_eq i j ≡ true
-equal_test i j h = grind arith
-
 times_one : (c : ℤ) → c *ℤ pos 1 ≡ c
 times_one c = omega (arith, ints)
 
@@ -27,7 +25,7 @@ pub put_at : (rs : List ℤ) (u v : Var) (c : ℤ) → var_number v < length rs 
 put_at rs u v c h = elim (same_or_not (var_number u) (var_number v)) [
   | inl same ↦
       get_or-set_at rs (var_number u) (var_number v) (rate_at rs u +ℤ c) (pos 0) (sym same) (subst (λ (i : ℕ). i < length rs) (sym same) h)
-      ∙ ap (λ (i : ℕ). get_or rs i (pos 0) +ℤ c) same ∙ ap (λ z. rate_at rs v +ℤ z) (sym (ap (λ (b : Bool). c *ℤ cond b (pos 1) (pos 0)) (equal_test (var_number u) (var_number v) same) ∙ times_one c))
+      ∙ ap (λ (i : ℕ). get_or rs i (pos 0) +ℤ c) same ∙ ap (λ z. rate_at rs v +ℤ z) (sym (ap (λ (b : Bool). c *ℤ cond b (pos 1) (pos 0)) (eq-eqb (var_number u) (var_number v) same) ∙ times_one c))
   | inr other ↦
       get_or-set_other rs (var_number u) (var_number v) (rate_at rs u +ℤ c) (pos 0) (λ (e : var_number v ≡ var_number u). other.0 (sym e))
       ∙ omega (arith, ints, ap (λ (b : Bool). c *ℤ cond b (pos 1) (pos 0)) other.1)

@@ -1,8 +1,7 @@
 -- Bounds of sums, multiples and like forms over a fact.
 use Rattle.std.specs.Prelude.{◌≡◌, ℕ, zero, suc, ℤ, pos, ◌+ℤ◌, ◌*ℤ◌, ◌≤ℤ◌, Bool, true, false, ◌&&◌, List, [], ◌∷◌, ◌++◌, length, IsSomeAnd, IfSome, Option, Some, None}
 use Rattle.std.proofs.Common.{refl, arith, sym, ◌∙◌, ap, subst, get_or}
-use Rattle.std.proofs.lemmas.Bool.{and_parts, false≢true}
-use Rattle.viper_word.proofs.Booleans.{test_true}
+use Rattle.std.proofs.lemmas.Bool.{and_parts, false≢true, not-false}
 use Rattle.std.proofs.lemmas.Int.{ints}
 use Rattle.viper_word.specs.Words.{IsSigned}
 use Rattle.num_domain.specs.Domain.{Domain, Has, Below}
@@ -144,7 +143,7 @@ module _ {T : Type 0} (d : Domain T) where
 
   has_all : (x : FactOf T) → is_empty d x ≡ false → all_have_ends d x ≡ true
   unfolding is_empty
-  has_all x h = test_true (all_have_ends d x) h
+  has_all x h = not-false (all_have_ends d x) h
 
   top_there : DomainLaws d → has_ends d d.top ≡ true
   top_there laws = there (ends d d.top) (λ r. Between r (pos 0)) (ends_has d laws d.top (pos 0) (laws.order.top_has (pos 0) zero_signed))

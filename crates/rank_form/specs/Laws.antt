@@ -19,8 +19,8 @@ module _ {T : Type 0} (d : Domain T) where
     pub after : (b : Bool) × Meets d o.after e' b
     pub posts : PostsHold o.posts e e'
 
-  -- a form lies between its bounds at each state that meets the fact, and rises by at most its bound
-  -- over an outcome
+  -- a form lies between its bounds at each state that meets the fact, and rises by at most its
+  -- bound over an outcome
   pub record BoundLaws : Type 0 where
     pub over : (f : FormOf) (x : FactOf T) (e : Values ℤ) (b : Bool) → Meets d x e b
         → value f e ≤ℤ upper d f x
@@ -38,8 +38,8 @@ module _ {T : Type 0} (d : Domain T) where
         → rise d (merged f) (merged g) o ≡ rise d f g o
 
 module _ {T : Type 0} (d : Domain T) where
-  -- what is known on one side of an instruction: the links of the fact before it and no larger values, and
-  -- it isn't empty
+  -- what is known on one side of an instruction: the links of the fact before it and no larger
+  -- values, and it isn't empty
   pub record IsSideOf (x side : FactOf T) : Type 0 where
     pub links : side.links ≡ x.links
     pub smaller : BelowValues d (values side) (values x)

@@ -56,7 +56,12 @@ fn reg_most<D: NumDomain>(fact: &Fact<D>, plus: &[i128], minus: &[i128], at: Reg
     ensures value { result ≡ net_most D.domain fact.now plus.now minus.now (var.Reg at) }
     ensures size { unsigned_abs result ≤ 2 ^ 110 }
 {
-    most(net_rate(plus, minus, Var::Reg(at)), &fact.reg(at))
+    let rate = net_rate(plus, minus, Var::Reg(at));
+    if rate == 0 {
+        0
+    } else {
+        most(rate, &fact.reg(at))
+    }
 }
 
 /// What a cell adds at most.

@@ -7,6 +7,7 @@
 #![tactic(auto)]
 
 mod bound;
+mod by_rates;
 mod form;
 mod laws;
 mod levels;

@@ -7,7 +7,7 @@ ghost use Rattle.rank_form.specs.Bounds.{post_at, linked, moved, moved_by, upper
 ghost use Rattle.rank_form.specs.Rates.{regs_of, AreSmall, IsBelow, spread, most_in, gain, gains, ArePostsSmall};
 
 use crate::bound::{most, net_upper};
-use crate::form::total;
+use crate::by_rates::total;
 use crate::place::{Links, links_of, no_links, place, post_at};
 use crate::rates::{FACT_VARIABLES, VARIABLES, product, put, zeros};
 use crate::terms::{constant, form_of, terms};
