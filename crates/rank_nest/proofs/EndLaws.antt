@@ -5,7 +5,7 @@ use Rattle.std.specs.Ordering.{nat_cmp, ordering_then, is_eq}
 use Rattle.std.specs.declared.cmp.Ordering.{Ordering}
 use Rattle.std.specs.declared.cmp.Ordering.TheVariants.{Less, Equal, Greater}
 use Rattle.std.proofs.Common.{refl, arith, sym, ap, subst, ◌∙◌, ⊎_elim}
-use Rattle.std.proofs.lemmas.Bool.{and_parts, and_from, eqb-true, eq-eqb, cases_Bool, false≢true}
+use Rattle.std.proofs.lemmas.Bool.{and_parts, and_from, eqb-true, eq-eqb, cases_Bool, false≢true, or_right}
 use Rattle.std.proofs.lemmas.List.Elements.{recursion_from_All}
 use Rattle.std.proofs.Math.Path.{ap₂}
 use Rattle.std.proofs.lemmas.Bool.Decides.{nat_tests}
@@ -15,6 +15,7 @@ use Rattle.rank_numbers.specs.declared.level.Level.{Level}
 use Rattle.rank_numbers.specs.Levels.{level_of, levels_of}
 use Rattle.rank_nest.specs.declared.telling.Ends.{Ends}
 use Rattle.rank_nest.specs.Told.{IsTellable, ends_cmp, same_ends, ends_of, AreEnds}
+use Rattle.viper_word.proofs.Booleans.{or_swap}
 
 eq_nat : (x n : ℕ) → is_eq (nat_cmp x n) ≡ nat_eq n x
 eq_nat x n = grind (arith, nat_tests)
@@ -39,13 +40,7 @@ any_ends (e ∷ es) p = ap₂ ◌||◌ (turned ∙ sym (eq_ends p e)) (any_ends 
 
 any_push : {A : Type 0} (t : A → Bool) (xs : List A) (x : A) → list_any t (xs ++ x ∷ []) ≡ (t x || list_any t xs)
 any_push t [] x = refl
-any_push t (y ∷ ys) x = ap (λ b. t y || b) (any_push t ys x) ∙ swap (t y) (t x) (list_any t ys)
-  where
-    swap : (a b c : Bool) → (a || (b || c)) ≡ (b || (a || c))
-    swap true true c = refl
-    swap true false c = refl
-    swap false true c = refl
-    swap false false c = refl
+any_push t (y ∷ ys) x = ap (λ b. t y || b) (any_push t ys x) ∙ or_swap (t y) (t x) (list_any t ys)
 
 or_cond : (b c : Bool) → cond b true c ≡ (b || c)
 or_cond true c = refl
@@ -85,11 +80,7 @@ same_itself p = and_from (nat_eq p.from p.from) (nat_eq p.to p.to) (eq-eqb p.fro
 self_any : (ends : List Ends) (i : ℕ) (z : Ends) → i < length ends → list_any (same_ends (get_or ends i z)) ends ≡ true
 self_any [] i z h = absurd (omega arith)
 self_any (e ∷ es) zero z h = ap (λ b. b || list_any (same_ends e) es) (same_itself e)
-self_any (e ∷ es) (suc i) z h = or_last (same_ends (get_or es i z) e) (list_any (same_ends (get_or es i z)) es) (self_any es i z (omega arith))
-  where
-    or_last : (b c : Bool) → c ≡ true → (b || c) ≡ true
-    or_last true c h = refl
-    or_last false c h = h
+self_any (e ∷ es) (suc i) z h = or_right (same_ends (get_or es i z) e) (list_any (same_ends (get_or es i z)) es) (self_any es i z (omega arith))
 
 any_below : (n : ℕ) (edges : List Edge) (p : Ends) → AllByRecursion (λ e. (e.from < n) × (e.to < n)) edges → list_any (same_ends p) (map ends_of edges) ≡ true → (p.from < n) × (p.to < n)
 any_below n [] p h a = absurd (false≢true a)

@@ -6,7 +6,7 @@ use Rattle.std.specs.Ordering.{is_eq}
 use Rattle.std.specs.Result.{is_err}
 use Rattle.std.specs.declared.cmp.Ordering.TheVariants.{Less}
 use Rattle.std.proofs.Common.{refl, arith, sym, ap, subst, ◌∙◌, ⊎_elim}
-use Rattle.std.proofs.lemmas.Bool.{false≢true, eqb-true, eq-eqb, cases_Bool}
+use Rattle.std.proofs.lemmas.Bool.{false≢true, eqb-true, eq-eqb, cases_Bool, or_left, or_right}
 use Rattle.num_domain.specs.Domain.{Domain}
 use Rattle.memory_plan.specs.Plans.{PlanLines}
 use Rattle.flag_relation.specs.Facts.{FactOf}
@@ -45,18 +45,10 @@ any_contains x (y ∷ ys) h =
     (suc r.0, omega arith, r.2))
     (cases_Bool (nat_eq x y))
 
-or_first : (b c : Bool) → b ≡ true → (b || c) ≡ true
-or_first true c h = refl
-or_first false c h = absurd (false≢true h)
-
-or_second : (b c : Bool) → c ≡ true → (b || c) ≡ true
-or_second true c h = refl
-or_second false c h = h
-
 pub contains_any : (xs : List ℕ) (i : ℕ) → i < length xs → list_any (nat_eq (get_or xs i 0)) xs ≡ true
 contains_any [] i h = absurd (omega arith)
-contains_any (y ∷ ys) zero h = or_first (nat_eq y y) (list_any (nat_eq y) ys) (eq-eqb y y refl)
-contains_any (y ∷ ys) (suc i) h = or_second (nat_eq (get_or ys i 0) y) (list_any (nat_eq (get_or ys i 0)) ys) (contains_any ys i (omega arith))
+contains_any (y ∷ ys) zero h = or_left (nat_eq y y) (list_any (nat_eq y) ys) (eq-eqb y y refl)
+contains_any (y ∷ ys) (suc i) h = or_right (nat_eq (get_or ys i 0) y) (list_any (nat_eq (get_or ys i 0)) ys) (contains_any ys i (omega arith))
 
 any_all : (P : ℕ → Type 0) (xs : List ℕ) (x : ℕ) → AllByRecursion P xs → list_any (nat_eq x) xs ≡ true → P x
 any_all P [] x h e = absurd (false≢true e)
@@ -86,9 +78,9 @@ default_same (y ∷ ys) (suc j) h x = default_same ys j (omega arith) x
 among : {A : Type 0} (f : A → ℕ) (xs : List A) → AllByRecursion (λ x. list_any (nat_eq (f x)) (map f xs) ≡ true) xs
 among f [] = tt
 among f (x ∷ xs) = (
-  or_first (nat_eq (f x) (f x)) (list_any (nat_eq (f x)) (map f xs)) (eq-eqb (f x) (f x) refl),
+  or_left (nat_eq (f x) (f x)) (list_any (nat_eq (f x)) (map f xs)) (eq-eqb (f x) (f x) refl),
   all_weaker (λ y. list_any (nat_eq (f y)) (map f xs) ≡ true) (λ y. list_any (nat_eq (f y)) (map f (x ∷ xs)) ≡ true) xs
-      (λ y h. or_second (nat_eq (f y) (f x)) (list_any (nat_eq (f y)) (map f xs)) h) (among f xs),
+      (λ y h. or_right (nat_eq (f y) (f x)) (list_any (nat_eq (f y)) (map f xs)) h) (among f xs),
 )
 
 pub no_err : {A E : Type 0} (o : Option E) (r : Result A E) → o ≡ None → is_err r ≡ true → MatchResult r (λ _. o ≡ None) (λ e. o ≡ Some e) → ⊥
