@@ -1,6 +1,5 @@
 -- Certificates: what is read is spelled so, and what is spelled so is read.
-use Rattle.std.proofs.Common.{◌≡◌, ℕ, zero, suc, ◌+◌, ◌^◌, ◌<◌, ◌≤◌, Bool, true, false, cond, List, [], ◌∷◌, ◌++◌, length, map, Option, Some, None, Result, Ok, Err, refl, sym, ap, subst, ◌∙◌, append_assoc, arith, eqb, get_or, ◌⊎◌, ⊎_elim}
-use Rattle.std.specs.Prelude.{IfSome, IsSome}
+use Rattle.std.proofs.Common.{◌≡◌, ℕ, suc, ◌^◌, ◌≤◌, true, false, cond, List, [], ◌∷◌, ◌++◌, length, Option, Some, None, Result, Ok, Err, refl, sym, ap, subst, ◌∙◌, append_assoc, arith, eqb, get_or, ⊎_elim}
 use Rattle.std.specs.Int.{w8, w32}
 use Rattle.std.specs.List.{flat_map, AllByRecursion}
 use Rattle.std.proofs.lemmas.Bool.{eqb-true}
@@ -24,7 +23,7 @@ use Rattle.cert_format.specs.ReadCerts.{magic_at, version_at, tracked_at, Headin
 use Rattle.cert_format.specs.Laws.{SpellingLaws, OneCertificate, SpelledHasNoFault, FaultlessIsSpelled}
 use Rattle.cert_format.specs.evidence.Numbers.{IsBytes, Takes, Takes-then, bind_ok, passed, ok_is, err_not_ok, word_takes, word_again, byte_takes, byte_again, many_takes}
 use Rattle.cert_format.proofs.FieldLaws.{count_takes, count_again, below_takes, below_again, numbers_takes, numbers_again, cells_takes, cells_again}
-use Rattle.cert_format.proofs.NodeLaws.{IsKnownIn, IsNodeIn, node_takes, node_again, placed_before}
+use Rattle.cert_format.proofs.NodeLaws.{IsNodeIn, node_takes, node_again, placed_before}
 
 -- ---- what stands before the nodes
 

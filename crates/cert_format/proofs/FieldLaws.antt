@@ -1,26 +1,22 @@
 -- Each field: what is read is spelled so, within its limits, and what is spelled so is read.
-use Rattle.std.proofs.Common.{◌≡◌, ℕ, zero, suc, ◌+◌, ◌-◌, ◌^◌, ◌<◌, ◌≤◌, ℤ, pos, negsuc, neg_ℤ, ◌≤ℤ◌, int_le, Bool, true, false, not, ◌&&◌, ◌||◌, cond, List, [], ◌∷◌, ◌++◌, length, Option, Some, None, Result, Ok, Err, refl, sym, ap, subst, ◌∙◌, append_assoc, arith, ltb, leb, eqb, nat_lt, nat_le, nat_eq, IfSome, ◌⊎◌, ⊎_elim}
-use Rattle.std.specs.Ordering.{int_eq}
+use Rattle.std.proofs.Common.{◌≡◌, ℕ, zero, suc, ◌+◌, ◌-◌, ◌^◌, ◌<◌, ◌≤◌, ℤ, pos, negsuc, neg_ℤ, ◌≤ℤ◌, int_le, true, false, cond, List, [], ◌∷◌, ◌++◌, length, Option, Some, None, Ok, Err, refl, sym, ap, subst, ◌∙◌, append_assoc, arith, eqb, nat_lt, nat_le, IfSome, ⊎_elim}
 use Rattle.std.specs.Int.{w8, w32, w64, cast_signed, cast_unsigned}
 use Rattle.std.specs.List.{flat_map, AllByRecursion}
 use Rattle.std.proofs.lemmas.Int.{ints, of_z-to_z, to_z-of_z}
-use Rattle.std.proofs.lemmas.Bool.{and_parts, and_from, ltb-true, lt-ltb, leb-true, le-leb, eqb-true, eqb-false, eq-eqb, ne_eqb}
-use Rattle.std.proofs.lemmas.Bool.Decides.{Decides-int_eq}
+use Rattle.std.proofs.lemmas.Bool.{and_parts, and_from, ltb-true, lt-ltb, leb-true, le-leb, eqb-true, ne_eqb}
 use Rattle.viper_word.proofs.Booleans.{chosen}
 use Rattle.viper_word.proofs.Integers.{le_true, true_le}
 use Rattle.flag_relation.specs.declared.link.Link.{Link}
 use Rattle.flag_relation.specs.declared.link.TheConstants.{MOST_OFFSET}
 use Rattle.flag_relation.specs.Forms.{is_within}
 use Rattle.flag_relation.specs.Limits.{IsLinkOf}
-use Rattle.cert_format.specs.declared.fault.Fault.{Fault}
-use Rattle.cert_format.specs.declared.fault.CertRule.TheVariants.{Range, Order}
 use Rattle.cert_format.specs.declared.limits.TheConstants.{NO_LINK}
 use Rattle.cert_format.specs.Limits.{IsBelow, IsWithin, AreCells}
 use Rattle.cert_format.specs.Values.{word_bytes, long_bytes, signed_long_bytes}
 use Rattle.cert_format.specs.Spelling.{counted_bytes, link_bytes}
 use Rattle.cert_format.specs.Reading.{◌>>=◌, number_at, many_at}
 use Rattle.cert_format.specs.Fields.{count_at, below_at, signed_at, numbers_at, cell_at, cells_at, offset_at, link_at}
-use Rattle.cert_format.specs.evidence.Numbers.{IsBytes, Takes, Takes-then, Reader, bind_ok, passed, spared, ok_is, err_not_ok, word_takes, word_again, long_takes, long_again, byte_takes, byte_again, many_takes, many_again}
+use Rattle.cert_format.specs.evidence.Numbers.{IsBytes, Takes, Takes-then, Reader, bind_ok, passed, ok_is, word_takes, word_again, long_takes, long_again, byte_takes, byte_again, many_takes, many_again}
 
 -- ---- counts and numbers below a limit
 

@@ -1,7 +1,6 @@
 -- Links and flags that are read are within their limits.
-use Rattle.std.proofs.Common.{◌≡◌, ℕ, zero, suc, ◌+◌, ◌<◌, ◌≤◌, ℤ, Bool, true, false, cond, List, [], ◌∷◌, Option, Some, None, Result, Ok, Err, refl, sym, ap, subst, eqb, nat_lt, nat_le, IfSome, ◌⊎◌, ⊎_elim}
+use Rattle.std.proofs.Common.{◌≡◌, ℕ, zero, suc, ◌≤◌, ℤ, true, false, cond, List, [], ◌∷◌, Option, Some, None, Ok, Err, subst, eqb, nat_lt, nat_le, IfSome, ⊎_elim}
 use Rattle.std.specs.Int.{w8, w32, w64, cast_signed}
-use Rattle.std.specs.List.{AllByRecursion}
 use Rattle.std.proofs.lemmas.Bool.{ltb-true, leb-true}
 use Rattle.viper_word.proofs.Booleans.{chosen}
 use Rattle.flag_relation.specs.declared.atom.Atom.{Atom}
@@ -15,7 +14,6 @@ use Rattle.flag_relation.specs.declared.link.TheConstants.{MOST_OFFSET}
 use Rattle.flag_relation.specs.Forms.{is_within}
 use Rattle.flag_relation.specs.Limits.{IsLinkOf, AreLinksOf, IsRightOf, AreAtomsOf, IsFlagOf}
 use Rattle.flag_relation.specs.Values.{Regs}
-use Rattle.cert_format.specs.declared.fault.Fault.{Fault}
 use Rattle.cert_format.specs.declared.limits.TheConstants.{NO_LINK, A_WORD, ONE, ANY}
 use Rattle.cert_format.specs.Limits.{IsWithin}
 use Rattle.cert_format.specs.Reading.{◌>>=◌, number_at, many_at}

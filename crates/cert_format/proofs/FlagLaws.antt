@@ -1,9 +1,9 @@
 -- Comparisons and flags: what is read is spelled so, and what is spelled so is read.
-use Rattle.std.proofs.Common.{◌≡◌, ℕ, zero, suc, ◌+◌, ◌-◌, ◌^◌, ◌<◌, ◌≤◌, Bool, true, false, not, ◌&&◌, ◌||◌, cond, List, [], ◌∷◌, ◌++◌, length, Option, Some, None, Result, Ok, Err, refl, sym, ap, subst, ◌∙◌, append_assoc, arith, eqb, nat_lt, nat_le, IfSome, ◌⊎◌, ⊎_elim}
+use Rattle.std.proofs.Common.{◌≡◌, ℕ, ◌≤◌, true, false, cond, List, [], ◌∷◌, ◌++◌, length, Option, Some, None, Ok, Err, refl, sym, ap, subst, ◌∙◌, arith, eqb, nat_lt, nat_le, ⊎_elim}
 use Rattle.std.specs.Int.{w8, w32}
 use Rattle.std.specs.List.{flat_map, AllByRecursion}
 use Rattle.std.proofs.lemmas.List.{length-append}
-use Rattle.std.proofs.lemmas.Bool.{and_parts, ltb-true, lt-ltb, leb-true, le-leb, eqb-true, ne_eqb}
+use Rattle.std.proofs.lemmas.Bool.{ltb-true, lt-ltb, leb-true, le-leb, eqb-true, ne_eqb}
 use Rattle.std.proofs.lemmas.Option.{none-some, same_Some}
 use Rattle.viper_word.proofs.Booleans.{chosen}
 use Rattle.viper_word.specs.declared.kind.Kind.{Kind}
@@ -18,7 +18,6 @@ use Rattle.flag_relation.specs.declared.flag.Flag.{Flag}
 use Rattle.flag_relation.specs.declared.flag.Flag.TheVariants.{Any, One, Or}
 use Rattle.flag_relation.specs.Equality.{kind_number, reg_number}
 use Rattle.flag_relation.specs.Limits.{IsRightOf, AreAtomsOf, IsFlagOf}
-use Rattle.cert_format.specs.declared.fault.Fault.{Fault}
 use Rattle.cert_format.specs.declared.limits.TheConstants.{A_WORD, ONE, ANY}
 use Rattle.cert_format.specs.Limits.{IsRightWord, HasWord, IsFlag}
 use Rattle.cert_format.specs.Values.{word_bytes}

@@ -1,7 +1,7 @@
 -- What is kept after one more node.
-use Rattle.std.proofs.Common.{◌≡◌, ℕ, zero, suc, ◌+◌, ◌<◌, ◌≤◌, Bool, true, false, cond, List, [], ◌∷◌, ◌++◌, length, map, take, drop, Option, Some, None, refl, sym, ap, subst, ◌∙◌, append_assoc, arith, slice_get, IfSome, ◌⊎◌, ⊎_elim}
-use Rattle.std.specs.List.{AllByRecursion, list_any, flat_map}
-use Rattle.std.proofs.lemmas.List.{map_push, length-append, take_at, drop_at, append-nil}
+use Rattle.std.proofs.Common.{◌≡◌, ℕ, zero, suc, ◌<◌, ◌≤◌, List, [], ◌∷◌, ◌++◌, length, take, drop, Option, Some, None, refl, sym, ap, ◌∙◌, append_assoc, arith, slice_get, IfSome}
+use Rattle.std.specs.List.{AllByRecursion, flat_map}
+use Rattle.std.proofs.lemmas.List.{take_at, drop_at, append-nil}
 use Rattle.flag_relation.specs.Facts.{FactOf}
 use Rattle.flag_relation.specs.declared.flag.Flag.{Flag}
 use Rattle.flag_relation.specs.declared.link.Link.{Link}
@@ -15,8 +15,8 @@ use Rattle.cert_format.specs.evidence.Numbers.{ok_is}
 use Rattle.cert_format.proofs.FieldLaws.{link_again}
 use Rattle.cert_format.proofs.FlagLaws.{IsFlagIn, flag_again}
 use Rattle.cert_format.specs.Certificates.{NodeOf}
-use Rattle.cert_format.specs.Kept.{same, has_fact, with_fact, kept_from}
-use Rattle.cert_format.specs.Keeping.{place_from, HasNumber, fact_of, node_view, nodes_view}
+use Rattle.cert_format.specs.Kept.{with_fact, kept_from}
+use Rattle.cert_format.specs.Keeping.{HasNumber, fact_of, node_view, nodes_view}
 
 pub get_grow : {A : Type 0} (xs ys : List A) (i : ℕ) → i < length xs → slice_get (xs ++ ys) i ≡ slice_get xs i
 get_grow [] ys i h = absurd (omega arith)

@@ -1,13 +1,13 @@
 -- Marks tell which nodes may be bare.
-use Rattle.std.proofs.Common.{◌≡◌, ℕ, zero, suc, ◌+◌, ◌<◌, ◌≤◌, Bool, true, false, not, ◌&&◌, ◌||◌, cond, List, [], ◌∷◌, length, get_or, take, drop, Option, Some, None, refl, sym, ap, subst, ◌∙◌, arith, eqb, nat_lt, ltb}
-use Rattle.std.specs.Prelude.{min, replicate}
+use Rattle.std.proofs.Common.{◌≡◌, ℕ, zero, suc, ◌+◌, ◌<◌, ◌≤◌, true, false, ◌&&◌, List, [], ◌∷◌, length, get_or, take, drop, Option, Some, None, refl, sym, ap, subst, ◌∙◌, arith, eqb}
+use Rattle.std.specs.Prelude.{min}
 use Rattle.std.proofs.lemmas.Bool.{lt-ltb, le-ltb}
 use Rattle.std.proofs.lemmas.Bool.Decides.{nat_tests}
 use Rattle.std.proofs.lemmas.List.{drop_more, drop_all}
 use Rattle.val_dom.specs.declared.val.Val.{Val}
 use Rattle.cert_format.specs.declared.limits.TheConstants.{MOST_NODES}
-use Rattle.cert_format.specs.Certificates.{NodeOf, CertificateOf, node_at, no_node, is_bare}
-use Rattle.cert_format.specs.Bare.{times, listed, may_be_bare, is_rightly_bare, first_bare_from}
+use Rattle.cert_format.specs.Certificates.{NodeOf, CertificateOf, node_at, no_node}
+use Rattle.cert_format.specs.Bare.{times, listed, is_rightly_bare, first_bare_from}
 use Rattle.cert_format.specs.Marks.{weight, weights, AreRaised, AreMarks}
 
 -- marks are raised one after the other

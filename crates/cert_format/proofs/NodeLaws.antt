@@ -1,5 +1,5 @@
 -- Facts and nodes: what is read is spelled so, and what is spelled so is read.
-use Rattle.std.proofs.Common.{◌≡◌, ℕ, zero, suc, ◌+◌, ◌^◌, ◌<◌, ◌≤◌, Bool, true, false, cond, List, [], ◌∷◌, ◌++◌, length, map, Option, Some, None, Result, Ok, Err, refl, sym, ap, subst, ◌∙◌, append_assoc, arith, eqb, ◌⊎◌, ⊎_elim}
+use Rattle.std.proofs.Common.{◌≡◌, ℕ, ◌^◌, ◌≤◌, true, false, cond, List, [], ◌∷◌, ◌++◌, length, Option, Some, None, Ok, Err, refl, sym, ap, subst, ◌∙◌, append_assoc, arith, eqb, ⊎_elim}
 use Rattle.std.specs.Prelude.{IfSome, IsSome}
 use Rattle.std.specs.Int.{w8}
 use Rattle.std.specs.List.{flat_map, AllByRecursion}
@@ -10,7 +10,6 @@ use Rattle.flag_relation.specs.declared.link.Link.{Link}
 use Rattle.flag_relation.specs.Facts.{FactOf}
 use Rattle.flag_relation.specs.Limits.{AreLinksOf}
 use Rattle.flag_relation.specs.Values.{Regs}
-use Rattle.cert_format.specs.declared.fault.Fault.{Fault}
 use Rattle.cert_format.specs.declared.version.Version.{Version}
 use Rattle.cert_format.specs.declared.version.Version.TheVariants.{One, Two}
 use Rattle.cert_format.specs.declared.limits.TheConstants.{FULL, BARE, MOST_SUCCESSORS}

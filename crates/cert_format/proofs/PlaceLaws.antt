@@ -1,69 +1,44 @@
 -- Kept facts are found by their bytes.
-use Rattle.std.proofs.Common.{◌≡◌, ℕ, zero, suc, ◌+◌, ◌<◌, Bool, true, false, cond, List, [], ◌∷◌, ◌++◌, length, map, Option, Some, None, refl, sym, ap, subst, ◌∙◌, append_assoc, arith, slice_get, ◌⊎◌, ⊎_elim, add-one, add-zero}
-use Rattle.std.specs.Ordering.{nat_cmp, is_eq, match_ordering}
-use Rattle.std.specs.declared.cmp.Ordering.{Ordering}
-use Rattle.std.specs.declared.cmp.Ordering.TheVariants.{Less, Equal, Greater}
-use Rattle.std.specs.BTreeMap.{insert_entry}
-use Rattle.std.specs.Cmp.Lexicographic.{slice_cmp}
-use Rattle.std.specs.Global.{Vec}
-use Rattle.std.proofs.lemmas.Bool.{cases_Bool}
-use Rattle.std.proofs.lemmas.Cmp.{nat_list_cmp_total, tied_itself}
-use Rattle.std.proofs.lemmas.Map.Lookups.{exact_bytes}
-use Rattle.std.proofs.lemmas.Option.{none-some, same_Some}
-use Rattle.cert_format.specs.Kept.{same}
-use Rattle.cert_format.specs.Keeping.{place_from, place_of, found, EntersPlace}
+use Rattle.std.proofs.Common.{◌≡◌, ℕ, Bool, true, false, not, ◌||◌, if◌then◌else◌, List, [], ◌∷◌, ◌++◌, Some, None, refl, sym, ap, ◌∙◌, option_map, slice_get}
+use Rattle.std.specs.Prelude.{bytes_eq}
+use Rattle.std.specs.List.{list_any}
+use Rattle.std.specs.Ordering.{on}
+use Rattle.std.specs.Cmp.Lexicographic.{bytes_decides}
+use Rattle.std.proofs.lemmas.List.{map_push}
+use Rattle.std.proofs.lemmas.Option.{slice_get-map}
+use Rattle.indexmap.specs.IndexSet.{insert_key}
+use Rattle.cert_format.specs.declared.fact_bytes.FactBytes.{FactBytes}
+use Rattle.cert_format.specs.Keeping.{spelled, Enters}
 
-eq_is : (o : Ordering) → is_eq o ≡ true → o ≡ Equal
-eq_is Less h = absurd (cc)
-eq_is Equal h = refl
-eq_is Greater h = absurd (cc)
+pub same_is : (a b : List ℕ) → bytes_eq a b ≡ true → a ≡ b
+same_is a b h = (bytes_decides a b).0 h
 
-pub same_is : (a b : List ℕ) → same a b ≡ true → a ≡ b
-same_is a b h = exact_bytes a b (eq_is (slice_cmp nat_cmp a b) h)
+pub same_self : (a : List ℕ) → bytes_eq a a ≡ true
+same_self a = (bytes_decides a a).1 refl
 
-pub same_self : (a : List ℕ) → same a a ≡ true
-same_self a = ap is_eq (tied_itself nat_list_cmp_total a)
+abbrev same : FactBytes → FactBytes → Bool
+same = on (λ (x : FactBytes). x.bytes.items) bytes_eq
 
--- ---- the map
+any_spelled : (q : List ℕ) (keys : List FactBytes) → list_any (bytes_eq q) (spelled keys) ≡ list_any (λ (k : FactBytes). bytes_eq q k.bytes.items) keys
+any_spelled q [] = refl
+any_spelled q (k ∷ keys) = ap (λ (b : Bool). bytes_eq q k.bytes.items || b) (any_spelled q keys)
 
-both_tests : {X : Type 0} (b : Bool) (x y z : X) → cond b x z ≡ cond b x (cond b y z)
-both_tests true x y z = refl
-both_tests false x y z = refl
-
--- tests that can't both be true go in either order
-swap_tests : {X : Type 0} (b c : Bool) (x y z : X) → (b ≡ true → c ≡ true → ⊥) → cond b x (cond c y z) ≡ cond c y (cond b x z)
-swap_tests true true x y z h = absurd (h refl refl)
-swap_tests true false x y z h = refl
-swap_tests false true x y z h = refl
-swap_tests false false x y z h = refl
-
-not_greater : (a b : List ℕ) → a ≡ b → slice_cmp nat_cmp a b ≡ Greater → ⊥
-not_greater a b e h = let s : slice_cmp nat_cmp a b ≡ Equal = subst (λ (t : List ℕ). slice_cmp nat_cmp a t ≡ Equal) e (tied_itself nat_list_cmp_total a) in absurd (cc)
-
-pub found_insert : (es : List (Vec ℕ × ℕ)) (k : Vec ℕ) (n : ℕ) (q : List ℕ) → found (insert_entry (λ x y. slice_cmp nat_cmp x.items y.items) es k n) q ≡ cond (same q k.items) (Some n) (found es q)
-found_insert [] k n q = refl
-found_insert (e ∷ es) k n q = by_order (found_insert es k n q) (slice_cmp nat_cmp k.items e.0.items) refl
+-- bytes that were there have their number
+pub enters_known : (old new : List FactBytes) (key : FactBytes) (i : ℕ) → false ≡ not (list_any (same key) old) → new ≡ insert_key same old key → (k : FactBytes) × (slice_get new i ≡ Some k) × (same key k ≡ true) → Enters old new key.bytes.items (Some i)
+enters_known old new key i known made at = by (list_any (same key) old) known made
   where
-    by_order : found (insert_entry (λ x y. slice_cmp nat_cmp x.items y.items) es k n) q ≡ cond (same q k.items) (Some n) (found es q) → (o : Ordering) → slice_cmp nat_cmp k.items e.0.items ≡ o → found (match_ordering o ((k, n) ∷ e ∷ es) ((e.0, n) ∷ es) (e ∷ insert_entry (λ x y. slice_cmp nat_cmp x.items y.items) es k n)) q ≡ cond (same q k.items) (Some n) (cond (same q e.0.items) (Some e.1) (found es q))
-    by_order ih Less h = refl
-    by_order ih Equal h =
-        let same_items = exact_bytes k.items e.0.items h in
-        subst (λ (t : List ℕ). cond (same q e.0.items) (Some n) (found es q) ≡ cond (same q t) (Some n) (cond (same q e.0.items) (Some e.1) (found es q))) (sym same_items) (both_tests (same q e.0.items) (Some n) (Some e.1) (found es q))
-    by_order ih Greater h =
-        ap (cond (same q e.0.items) (Some e.1)) ih ∙ swap_tests (same q e.0.items) (same q k.items) (Some e.1) (Some n) (found es q)
-        (λ a b. let x = same_is q e.0.items a in let y = same_is q k.items b in let z : k.items ≡ e.0.items = sym y ∙ x in not_greater k.items e.0.items z h)
+    by : (b : Bool) → false ≡ not b → new ≡ (if b then old else old ++ key ∷ []) → Enters old new key.bytes.items (Some i)
+    by true e h = (
+      slice_get-map (λ (k : FactBytes). k.bytes.items) old i ∙ ap (option_map (λ (k : FactBytes). k.bytes.items)) (ap (λ (ks : List FactBytes). slice_get ks i) (sym h) ∙ at.1)
+          ∙ ap (λ (b : List ℕ). Some b) (sym (same_is key.bytes.items at.0.bytes.items at.2)),
+      ap spelled h,
+    )
+    by false e h = absurd (cc)
 
--- ---- the places
-
-pub place_push : (n : ℕ) (q : List ℕ) (ks : List (List ℕ)) (k : List ℕ) → place_from n k ks ≡ None → place_from n q (ks ++ k ∷ []) ≡ cond (same q k) (Some (n + length ks)) (place_from n q ks)
-place_push n q [] k h = ap (λ (m : ℕ). cond (same q k) (Some m) None) (sym (add-zero n))
-place_push n q (c ∷ ks) k h =
-    let p = not_here (same k c) (Some n) (place_from (suc n) k ks) h in
-    ap (cond (same q c) (Some n)) (place_push (suc n) q ks k p.1 ∙ ap (λ (m : ℕ). cond (same q k) (Some m) (place_from (suc n) q ks)) (omega arith))
-    ∙ swap_tests (same q c) (same q k) (Some n) (Some (n + suc (length ks))) (place_from (suc n) q ks) (λ a b.
-    let x = same_is q c a in let y = same_is q k b in
-    let z : same k c ≡ true = subst (λ (t : List ℕ). same t c ≡ true) y a in absurd (cc))
+-- and others went in last
+pub enters_last : (old new : List FactBytes) (key : FactBytes) → true ≡ not (list_any (same key) old) → new ≡ insert_key same old key → Enters old new key.bytes.items None
+enters_last old new key known made = by (list_any (same key) old) refl known made
   where
-    not_here : (b : Bool) (o p : Option ℕ) → cond b (Some n) p ≡ None → (b ≡ false) × (p ≡ None)
-    not_here true o p h = absurd (cc)
-    not_here false o p h = (refl, h)
+    by : (b : Bool) → list_any (same key) old ≡ b → true ≡ not b → new ≡ (if b then old else old ++ key ∷ []) → Enters old new key.bytes.items None
+    by true e n h = absurd (cc)
+    by false e n h = (any_spelled key.bytes.items old ∙ e, ap spelled h ∙ map_push (λ (k : FactBytes). k.bytes.items) old key)

@@ -1,14 +1,9 @@
 -- What is appended part after part.
-use Rattle.std.proofs.Common.{◌≡◌, ℕ, List, ◌++◌, Option, Result, Ok, Err, refl, sym, ap, ◌∙◌, append_assoc}
-use Rattle.std.specs.Prelude.{OnOk}
+use Rattle.std.proofs.Common.{◌≡◌, ℕ, List, ◌++◌, Option, ◌∙◌, append_assoc}
 use Rattle.std.specs.List.{flat_map}
 use Rattle.flag_relation.specs.declared.link.Link.{Link}
 use Rattle.flag_relation.specs.Facts.{FactOf}
 use Rattle.cert_format.specs.Spelling.{link_bytes, flag_bytes, fact_bytes}
-
-pub on_ok_then : {A E : Type 0} (r : Result A E) (P Q : Type 0) → (P → Q) → OnOk r P → OnOk r Q
-on_ok_then (Ok a) P Q f h = f h
-on_ok_then (Err e) P Q f h = tt
 
 pub fact_appended : {T : Type 0} (bytes : T → List ℕ) (f : FactOf T) (a x y : T) (cells : List T) (k l m : Option Link) (o p q r s t u v w : List ℕ)
     → a ≡ f.a → x ≡ f.x → y ≡ f.y → cells ≡ f.cells → k ≡ f.links.a → l ≡ f.links.x → m ≡ f.links.y

@@ -1,19 +1,17 @@
 -- Ranks: what is read is spelled so, and what is spelled so is read.
-use Rattle.std.proofs.Common.{◌≡◌, ℕ, zero, suc, ◌+◌, ◌-◌, ◌^◌, ◌<◌, ◌≤◌, ℤ, pos, neg_ℤ, ◌≤ℤ◌, Bool, true, false, not, ◌&&◌, cond, List, [], ◌∷◌, ◌++◌, length, Option, Some, None, Result, Ok, Err, refl, sym, ap, subst, ◌∙◌, append_assoc, arith, eqb, nat_lt, nat_le, ltb, ◌⊎◌, ⊎_elim}
+use Rattle.std.proofs.Common.{◌≡◌, ℕ, zero, suc, ◌+◌, ◌^◌, ◌<◌, ◌≤◌, ℤ, pos, Bool, true, false, not, ◌&&◌, List, [], ◌∷◌, ◌++◌, length, Ok, refl, sym, ap, subst, ◌∙◌, append_assoc, arith, nat_lt, nat_le}
 use Rattle.std.specs.Ordering.{int_eq}
 use Rattle.std.specs.Int.{w8, w64, cast_signed, cast_unsigned}
 use Rattle.std.specs.List.{flat_map}
 use Rattle.std.proofs.lemmas.Int.{ints, of_z-to_z}
-use Rattle.std.proofs.lemmas.List.{length-append}
-use Rattle.std.proofs.lemmas.Bool.{and_parts, and_from, ltb-true, lt-ltb, le-ltb, leb-true, le-leb, eqb-true, ne_eqb}
+use Rattle.std.proofs.lemmas.Bool.{and_parts, and_from, ltb-true, lt-ltb, le-ltb, leb-true, le-leb, ne_eqb}
 use Rattle.std.proofs.lemmas.Bool.Decides.{Decides-int_eq}
-use Rattle.viper_word.proofs.Booleans.{chosen, test_false}
+use Rattle.viper_word.proofs.Booleans.{test_false}
 use Rattle.viper_word.specs.declared.reg.Reg.TheVariants as reg
 use Rattle.flag_relation.specs.declared.form.TheConstants.{MOST_TERMS}
 use Rattle.flag_relation.specs.declared.var.Var.{Var}
 use Rattle.flag_relation.specs.declared.var.Var.TheVariants as var
 use Rattle.flag_relation.specs.Forms.{FormOf, var_number, is_within, is_coefficient, are_terms, is_form}
-use Rattle.cert_format.specs.declared.fault.Fault.{Fault}
 use Rattle.cert_format.specs.declared.limits.TheConstants.{MOST_RANK, MOST_FACTOR, TERM}
 use Rattle.cert_format.specs.Limits.{IsWithin, AreTerms, IsRank}
 use Rattle.cert_format.specs.Values.{long_bytes, signed_long_bytes}
@@ -21,7 +19,7 @@ use Rattle.cert_format.specs.Spelling.{counted_bytes, term_bytes, rank_bytes}
 use Rattle.cert_format.specs.Reading.{◌>>=◌, number_at}
 use Rattle.cert_format.specs.Fields.{count_at, signed_at, var_of, is_factor, term_of, term_parts_at, term_at, terms_at, rank_at}
 use Rattle.cert_format.specs.evidence.Numbers.{IsBytes, Takes, Takes-then, bind_ok, passed, spared, ok_is, byte_takes, byte_again, long_takes, long_again}
-use Rattle.cert_format.proofs.FieldLaws.{within_is, is_within_is, signed_takes, signed_again, count_takes, count_again, IsLong, long_from}
+use Rattle.cert_format.proofs.FieldLaws.{within_is, is_within_is, signed_takes, signed_again, count_takes, count_again, long_from}
 
 pub var_back : (n : ℕ) → var_number (var_of n) ≡ n
 unfolding var_of

@@ -1,5 +1,5 @@
 -- A certificate is read part after part.
-use Rattle.std.proofs.Common.{◌≡◌, ℕ, zero, suc, ◌+◌, ◌<◌, ◌≤◌, ◌^◌, cond, List, [], ◌∷◌, ◌++◌, length, Option, Some, None, Result, Ok, Err, refl, sym, ap, subst, ◌∙◌, nat_lt, arith}
+use Rattle.std.proofs.Common.{◌≡◌, ℕ, zero, suc, ◌+◌, ◌<◌, ◌≤◌, cond, List, [], ◌∷◌, ◌++◌, length, Some, Result, Ok, Err, refl, sym, ap, subst, ◌∙◌, nat_lt}
 use Rattle.std.specs.Int.{w32}
 use Rattle.std.proofs.lemmas.Bool.{ltb-true}
 use Rattle.val_dom.specs.declared.val.Val.{Val}
@@ -8,7 +8,7 @@ use Rattle.cert_format.specs.declared.fault.Fault.{Fault}
 use Rattle.cert_format.specs.declared.fault.ReadError.{ReadError}
 use Rattle.cert_format.specs.declared.fault.ReadError.TheVariants as errors
 use Rattle.cert_format.specs.declared.version.Version.{Version}
-use Rattle.cert_format.specs.Certificates.{NodeOf, CertificateOf}
+use Rattle.cert_format.specs.Certificates.{CertificateOf}
 use Rattle.cert_format.specs.Spelling.{IsCert}
 use Rattle.cert_format.specs.Reading.{◌>>=◌, Fails, number_at, many_at}
 use Rattle.cert_format.specs.Fields.{count_at, below_at, cell_at, cells_at}

@@ -1,5 +1,5 @@
 -- Which nodes may be bare.
-use Rattle.std.specs.Prelude.{◌≡◌, ℕ, zero, suc, ◌+◌, ◌==◌, nat_lt, Bool, true, false, not, ◌&&◌, ◌||◌, if◌then◌else◌, List, [], ◌∷◌, take, count_by, Option, Some, None}
+use Rattle.std.specs.Prelude.{◌≡◌, ℕ, suc, ◌+◌, ◌==◌, Bool, not, ◌&&◌, ◌||◌, if◌then◌else◌, List, [], ◌∷◌, take, count_by, Option, Some, None}
 use Rattle.cert_format.specs.Certificates.{NodeOf, CertificateOf, is_bare}
 
 -- how often the list has the number

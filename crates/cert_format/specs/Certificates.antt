@@ -1,5 +1,5 @@
 -- What a certificate is, with values of type T in its facts.
-use Rattle.std.specs.Prelude.{ℕ, pos, List, [], ◌++◌, ◌∷◌, Option, Some, None, Bool, not, is_some}
+use Rattle.std.specs.Prelude.{ℕ, pos, List, [], ◌++◌, ◌∷◌, Option, None, Bool, not, is_some}
 use Rattle.std.proofs.Common.{get_or}
 use Rattle.flag_relation.specs.Facts.{FactOf}
 use Rattle.flag_relation.specs.Forms.{FormOf}

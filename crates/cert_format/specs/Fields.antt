@@ -1,5 +1,5 @@
 -- The fields of a certificate, each with its rules in their order.
-use Rattle.std.specs.Prelude.{◌≡◌, ℕ, zero, suc, ◌+◌, ◌-◌, ◌^◌, ℤ, pos, List, [], ◌∷◌, length, Option, Some, None, Result, Ok, Err, Bool, true, false, not, nat_lt, nat_le, ◌==◌, ◌&&◌, ◌||◌, if◌then◌else◌}
+use Rattle.std.specs.Prelude.{ℕ, zero, suc, ◌+◌, ◌-◌, ◌^◌, ℤ, pos, List, [], ◌∷◌, length, Option, Some, None, Result, Ok, Bool, false, not, nat_lt, nat_le, ◌==◌, ◌&&◌, ◌||◌, if◌then◌else◌}
 use Rattle.std.specs.Ordering.{int_eq}
 use Rattle.std.specs.Int.{w8, w32, w64, cast_signed}
 use Rattle.viper_word.specs.declared.kind.Kind.{Kind}
@@ -19,8 +19,8 @@ use Rattle.flag_relation.specs.declared.var.Var.{Var}
 use Rattle.flag_relation.specs.declared.var.Var.TheVariants as var
 use Rattle.flag_relation.specs.Forms.{FormOf, is_within, var_number}
 use Rattle.cert_format.specs.declared.fault.Fault.{Fault}
-use Rattle.cert_format.specs.declared.fault.CertRule.TheVariants.{Length, Magic, Version, Range, Order}
-use Rattle.cert_format.specs.declared.limits.TheConstants.{NO_LINK, A_WORD, ONE, ANY, MAGIC, MOST_RANK, MOST_FACTOR, TERM}
+use Rattle.cert_format.specs.declared.fault.CertRule.TheVariants.{Length, Range, Order}
+use Rattle.cert_format.specs.declared.limits.TheConstants.{NO_LINK, A_WORD, ONE, ANY, MOST_RANK, MOST_FACTOR, TERM}
 use Rattle.cert_format.specs.Reading.{fault, ◌>>=◌, number_at, many_at}
 
 -- ---- numbers

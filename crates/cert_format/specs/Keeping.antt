@@ -1,35 +1,28 @@
--- How a certificate is kept: equal facts once, found by a map over their bytes.
-use Rattle.std.specs.Prelude.{◌≡◌, ℕ, zero, suc, ◌<◌, ◌≤◌, ◌^◌, Bool, if◌then◌else◌, List, [], ◌∷◌, length, map, Option, Some, None, IfSome}
-use Rattle.std.specs.Global.{Vec}
-use Rattle.std.specs.List.{AllByRecursion, slice_get}
-use Rattle.std.specs.Map.{lookup}
+-- How a certificate is kept: equal facts once, found by a set of their bytes.
+use Rattle.std.specs.Prelude.{◌≡◌, ℕ, ◌<◌, ◌≤◌, ◌^◌, false, List, [], ◌∷◌, ◌++◌, length, map, Option, Some, None, IfSome, bytes_eq}
+use Rattle.std.specs.List.{AllByRecursion, list_any, slice_get}
 use Rattle.flag_relation.specs.Facts.{FactOf}
 use Rattle.cert_format.specs.declared.cert.Node.{Node}
+use Rattle.cert_format.specs.declared.fact_bytes.FactBytes.{FactBytes}
+use Rattle.cert_format.specs.declared.given.Given.{Given}
+use Rattle.cert_format.specs.declared.given.Given.TheVariants.{Lent, Owned}
 use Rattle.cert_format.specs.declared.limits.TheConstants.{MOST_NODES}
 use Rattle.cert_format.specs.Certificates.{NodeOf}
 use Rattle.cert_format.specs.Limits.{IsFact}
 use Rattle.cert_format.specs.Spelling.{fact_bytes}
-use Rattle.cert_format.specs.Kept.{same, kept_facts}
+use Rattle.cert_format.specs.Kept.{kept_facts}
 
--- the place of the first item from that number on that is equal
-abbrev pub place_from : ℕ → List ℕ → List (List ℕ) → Option ℕ
-place_from n q [] = None
-place_from n q (k ∷ keys) = (if same q k then Some n else place_from (suc n) q keys)
+abbrev pub spelled : List FactBytes → List (List ℕ)
+spelled keys = map (λ k. k.bytes.items) keys
 
-abbrev pub place_of : List ℕ → List (List ℕ) → Option ℕ
-place_of q keys = place_from 0 q keys
+-- the bytes have that number, or went in last
+abbrev pub Enters : List FactBytes → List FactBytes → List ℕ → Option ℕ → Type 0
+Enters old new q (Some i) = (slice_get (spelled old) i ≡ Some q) × (spelled new ≡ spelled old)
+Enters old new q None = (list_any (bytes_eq q) (spelled old) ≡ false) × (spelled new ≡ spelled old ++ q ∷ [])
 
--- what the map has at those bytes
-abbrev pub found : List (Vec ℕ × ℕ) → List ℕ → Option ℕ
-found entries q = lookup (λ v. same q v.items) entries
-
--- the map has the place of each of the keys, and nothing else
-abbrev pub ArePlaces : List (Vec ℕ × ℕ) → List (List ℕ) → Type 0
-ArePlaces entries keys = (q : List ℕ) → found entries q ≡ place_of q keys
-
--- the number is entered at the key, and all else stays
-abbrev pub EntersPlace : List (Vec ℕ × ℕ) → List (Vec ℕ × ℕ) → List ℕ → ℕ → Type 0
-EntersPlace old new key n = (q : List ℕ) → found new q ≡ (if same q key then Some n else found old q)
+-- the bytes that went in last are out again
+abbrev pub LeavesLast : List FactBytes → List FactBytes → Type 0
+LeavesLast old new = (keys : List (List ℕ)) (q : List ℕ) → spelled old ≡ keys ++ q ∷ [] → spelled new ≡ keys
 
 abbrev pub HasNumber : ℕ → Node → Type 0
 HasNumber count n = IfSome n.fact (λ i. i < count)
@@ -38,6 +31,10 @@ abbrev pub HasAddress : Node → Type 0
 HasAddress n = n.addr < 2 ^ 20
 
 module _ {T : Type 0} where
+  abbrev pub given : Given T → FactOf T
+  given (Lent f) = f.now
+  given (Owned f) = f
+
   abbrev pub fact_of : List (FactOf T) → Option ℕ → Option (FactOf T)
   fact_of kept None = None
   fact_of kept (Some i) = slice_get kept i
@@ -57,11 +54,11 @@ module _ {T : Type 0} where
   keys_of bytes kept = map (fact_bytes bytes) kept
 
   pub record IsKeeping (bytes : T → List ℕ) (cells : ℕ) (nodes : List Node)
-      (kept : List (FactOf T)) (entries : List (Vec ℕ × ℕ)) : Type 0 where
+      (kept : List (FactOf T)) (keys : List FactBytes) : Type 0 where
     pub few : length nodes ≤ MOST_NODES
     pub fewer : length kept ≤ length nodes
     pub addresses : AllByRecursion HasAddress nodes
     pub numbers : AllByRecursion (HasNumber (length kept)) nodes
     pub facts : AllByRecursion (IsFact cells) kept
     pub once : kept ≡ kept_facts bytes (nodes_view kept nodes)
-    pub places : ArePlaces entries (keys_of bytes kept)
+    pub places : spelled keys ≡ keys_of bytes kept

@@ -1,20 +1,14 @@
 -- The facts that a certificate keeps: each distinct fact once, in the order of first use.
-use Rattle.std.specs.Prelude.{◌≡◌, ℕ, zero, suc, Bool, if◌then◌else◌, List, [], ◌∷◌, ◌++◌, Option, Some, None}
-use Rattle.std.specs.List.{list_any, slice_get}
-use Rattle.std.specs.Ordering.{nat_cmp, is_eq}
-use Rattle.std.specs.Cmp.Lexicographic.{slice_cmp}
+use Rattle.std.specs.Prelude.{ℕ, Bool, if◌then◌else◌, List, [], ◌∷◌, ◌++◌, Option, Some, None, bytes_eq}
+use Rattle.std.specs.List.{list_any}
 use Rattle.flag_relation.specs.Facts.{FactOf}
 use Rattle.cert_format.specs.Certificates.{NodeOf}
 use Rattle.cert_format.specs.Spelling.{fact_bytes}
 
--- are the bytes equal?
-abbrev pub same : List ℕ → List ℕ → Bool
-same a b = is_eq (slice_cmp nat_cmp a b)
-
 module _ {T : Type 0} (bytes : T → List ℕ) where
   -- facts are told apart by their bytes, which are equal for equal facts alone
   abbrev pub has_fact : List (FactOf T) → FactOf T → Bool
-  has_fact kept f = list_any (λ g. same (fact_bytes bytes f) (fact_bytes bytes g)) kept
+  has_fact kept f = list_any (λ g. bytes_eq (fact_bytes bytes f) (fact_bytes bytes g)) kept
 
   -- one more fact, unless an equal one is there
   abbrev pub with_fact : List (FactOf T) → Option (FactOf T) → List (FactOf T)
@@ -28,8 +22,3 @@ module _ {T : Type 0} (bytes : T → List ℕ) where
   -- the facts of the nodes
   abbrev pub kept_facts : List (NodeOf T) → List (FactOf T)
   kept_facts nodes = kept_from [] nodes
-
--- no two of the facts are equal
-abbrev pub AreDistinct : {T : Type 0} → List (FactOf T) → Type 0
-AreDistinct {T} kept = (i j : ℕ) (f : FactOf T) → slice_get kept i ≡ Some f → slice_get kept j ≡ Some f
-    → i ≡ j

@@ -1,9 +1,8 @@
 -- What holds of spellings.
-use Rattle.std.specs.Prelude.{◌≡◌, ℕ, ◌<◌, List, [], ◌∷◌, Option, Some, None}
+use Rattle.std.specs.Prelude.{◌≡◌, ℕ, ◌<◌, List, None}
 use Rattle.std.proofs.Common.{get_or}
 use Rattle.val_dom.specs.declared.val.Val.{Val}
 use Rattle.cert_format.specs.declared.version.Version.{Version}
-use Rattle.cert_format.specs.declared.fault.CertFault.{CertFault}
 use Rattle.cert_format.specs.Certificates.{CertificateOf}
 use Rattle.cert_format.specs.Spelling.{IsCert}
 use Rattle.cert_format.specs.ReadCerts.{first_fault}

@@ -5,6 +5,7 @@ pub mod Bare
 pub mod Marks
 pub mod Spelling
 pub mod Kept
+pub mod RankPlaces
 pub mod Keeping
 pub mod Reading
 pub mod ReadValues

@@ -1,5 +1,5 @@
 -- The limits of certificates.
-use Rattle.std.specs.Prelude.{◌≡◌, ℕ, ◌+◌, ◌<◌, ◌≤◌, ◌^◌, neg_ℤ, ◌≤ℤ◌, ℤ, pos, List, [], ◌∷◌, length, Option, Some, None, IfSome}
+use Rattle.std.specs.Prelude.{◌≡◌, ℕ, ◌+◌, ◌<◌, ◌≤◌, ◌^◌, neg_ℤ, ◌≤ℤ◌, ℤ, pos, List, [], ◌∷◌, length, IfSome}
 use Rattle.std.specs.List.{AllByRecursion}
 use Rattle.flag_relation.specs.declared.atom.Atom.{Atom}
 use Rattle.flag_relation.specs.declared.atom.Right.{Right}

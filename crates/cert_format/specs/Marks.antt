@@ -1,5 +1,5 @@
 -- How the rule Bare is told in one pass: each node has a mark, raised where its number is listed.
-use Rattle.std.specs.Prelude.{◌≡◌, ℕ, zero, suc, ◌+◌, ◌<◌, min, nat_lt, ◌==◌, if◌then◌else◌, List, [], ◌∷◌, length, get_or}
+use Rattle.std.specs.Prelude.{◌≡◌, ℕ, suc, ◌+◌, ◌<◌, min, nat_lt, ◌==◌, if◌then◌else◌, List, [], ◌∷◌, length, get_or}
 use Rattle.cert_format.specs.Certificates.{NodeOf, CertificateOf}
 use Rattle.cert_format.specs.Bare.{times, may_be_bare}
 

@@ -1,5 +1,5 @@
 -- Reading a certificate whole: its value, or the first rule that is broken with its place.
-use Rattle.std.specs.Prelude.{◌≡◌, ℕ, zero, suc, ◌-◌, List, [], ◌∷◌, ◌++◌, length, map, Option, Some, None, Result, Ok, Err, ◌==◌, nat_lt, if◌then◌else◌}
+use Rattle.std.specs.Prelude.{◌≡◌, ℕ, suc, ◌-◌, List, ◌++◌, length, map, Option, Some, None, Result, Ok, Err, ◌==◌, if◌then◌else◌}
 use Rattle.std.proofs.Common.{get_or}
 use Rattle.std.specs.Int.{w8, w32}
 use Rattle.val_dom.specs.declared.val.Val.{Val}
@@ -9,7 +9,6 @@ use Rattle.cert_format.specs.declared.fault.ReadError.{ReadError}
 use Rattle.cert_format.specs.declared.reading.ReadHeading.{ReadHeading}
 use Rattle.cert_format.specs.declared.fault.CertFault.{CertFault}
 use Rattle.cert_format.specs.declared.fault.CertFault.TheVariants as faults
-use Rattle.cert_format.specs.declared.fault.CertRule.{CertRule}
 use Rattle.cert_format.specs.declared.fault.CertRule.TheVariants as rules
 use Rattle.cert_format.specs.declared.version.Version.{Version}
 use Rattle.cert_format.specs.declared.version.Version.TheVariants.{One, Two}

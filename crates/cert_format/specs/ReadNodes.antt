@@ -1,5 +1,5 @@
 -- The facts and the nodes of a certificate.
-use Rattle.std.specs.Prelude.{◌≡◌, ℕ, ◌^◌, List, [], ◌∷◌, length, Option, Some, None, IfSome, Result, Ok, Err, ◌==◌, if◌then◌else◌}
+use Rattle.std.specs.Prelude.{◌≡◌, ℕ, ◌^◌, List, length, Option, Some, None, IfSome, Result, Ok, ◌==◌, if◌then◌else◌}
 use Rattle.std.specs.Int.{w8}
 use Rattle.val_dom.specs.declared.val.Val.{Val}
 use Rattle.flag_relation.specs.declared.link.Link.{Link}

@@ -1,7 +1,6 @@
 -- Which four numbers are a value in normal form.
-use Rattle.std.specs.Prelude.{◌≡◌, ℕ, ℤ, pos, ◌-ℤ◌, nat_abs, int_lt, nat_lt, ◌==◌, Bool, true, false, ◌&&◌, ◌||◌, if◌then◌else◌, Option, Some, None, List, Result, Ok, Err, length}
-use Rattle.std.specs.Ordering.{int_eq}
-use Rattle.std.specs.Int.{w32, cast_signed}
+use Rattle.std.specs.Prelude.{◌≡◌, ℕ, ℤ, pos, nat_lt, Bool, true, false, if◌then◌else◌, Option, Some, None, List, Result, Ok, length}
+use Rattle.std.specs.Int.{w32}
 use Rattle.std.proofs.Common.{refl}
 use Rattle.viper_word.specs.Words.{signed_value}
 use Rattle.val_dom.specs.declared.val.Val.{Val}

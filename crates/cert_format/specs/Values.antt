@@ -1,5 +1,5 @@
 -- The bytes of a value in normal form. Numbers are big-endian.
-use Rattle.std.specs.Prelude.{ℕ, ℤ, pos, List, [], ◌∷◌, ◌++◌, take, replicate}
+use Rattle.std.specs.Prelude.{ℕ, ℤ, List, ◌++◌, replicate}
 use Rattle.std.specs.Int.{w32, w64, to_be_bytes, cast_unsigned}
 use Rattle.val_dom.specs.declared.val.Val.{Val}
 

@@ -1,6 +1,6 @@
 ghost use Rattle.std.specs.Prelude.{◌≡◌, ◌<◌, ◌≤◌, ◌^◌, ◌++◌, ◌∷◌, []};
 ghost use Rattle.std.specs.Prelude.{length, Some, None, IsSome, OnOk, OnErr};
-ghost use Rattle.cert_format.specs.Keeping.{EntersPlace};
+ghost use Rattle.cert_format.specs.Keeping.{given};
 ghost use Rattle.cert_format.specs.Spelling.{front};
 ghost use Rattle.cert_format.specs.declared.spelled.TheConstants.{SPELLED};
 ghost use Rattle.cert_format.specs.Certificates.{node_at, is_bare, with_node};
@@ -8,11 +8,12 @@ ghost use Rattle.cert_format.specs.Limits.{IsKeptCert};
 ghost use Rattle.cert_format.specs.Kept.{kept_facts};
 ghost use Rattle.cert_format.specs.declared.limits.TheConstants.{MOST_NODES};
 
-use crate::places::{copied, enter, find, key_of};
+use crate::given::Given;
+use crate::places::{Places, enter, key_of, leave};
+use crate::rank::Rank;
 use crate::spelled::{SPELLED, Spelled};
 use flag_relation::{Fact, Form};
 use std::alloc::Global;
-use std::collections::BTreeMap;
 use std::marker::Model;
 use val_dom::Val;
 use viper_word::{Addr, Memory};
@@ -23,7 +24,7 @@ pub(crate) struct Node {
     addr: Addr,
     fact: Option<u32>,
     succ: Vec<u32>,
-    rank: Form,
+    rank: Rank,
 }
 
 /// A certificate: the addresses of the tracked cells, the numbers of the start nodes, and at most
@@ -37,8 +38,8 @@ pub struct CertOf<D: Spelled> {
     starts: Vec<u32>,
     nodes: Vec<Node>,
     kept: Vec<Fact<D>>,
-    /// The number of each fact that is kept, by its bytes.
-    places: BTreeMap<Vec<u8>, u32>,
+    /// The bytes of each fact that is kept, at its number.
+    places: Places,
 }
 
 /// A certificate over the values that the certifier uses.
@@ -60,7 +61,7 @@ impl<D: Spelled> Model for CertOf<D> {
     } };
 
     ghost invariant = { λ c. IsKeeping (front SPELLED D.bytes) (length c.cells.items) c.nodes.items c.kept.items
-        c.places.entries };
+        c.places.keys };
 }
 
 /// Appends a node. After `Memory` nothing changed.
@@ -85,49 +86,22 @@ fn append_fact<D: Spelled>(kept: &mut Vec<Fact<D>>, fact: Fact<D>) -> Result<(),
     }
 }
 
-/// Appends a node, and enters a number at the bytes of its fact. After `Memory` nothing changed.
-fn append_entered(
-    nodes: &mut Vec<Node>,
-    places: &mut BTreeMap<Vec<u8>, u32>,
-    node: Node,
-    key: Vec<u8>,
-    number: u32,
-) -> Result<(), Memory>
-    ensures nodes { OnOk result (nodes.new.items ≡ nodes.old.items ++ node ∷ []) }
-    ensures places { OnOk result
-        (EntersPlace places.old.entries places.new.entries key.items number) }
-    ensures same_nodes { OnErr result (nodes.new.items ≡ nodes.old.items) }
-    ensures same_places { OnErr result (places.new.entries ≡ places.old.entries) }
-{
-    append(nodes, node)?;
-    if enter(places, key, number).is_err() {
-        nodes.pop();
-        return Err(Memory);
-    }
-    Ok(())
-}
-
 /// Appends a node with a fact that isn't kept yet. After `Memory` nothing changed.
 fn append_new<D: Spelled>(
+    alloc: Global,
     nodes: &mut Vec<Node>,
     kept: &mut Vec<Fact<D>>,
-    places: &mut BTreeMap<Vec<u8>, u32>,
     node: Node,
-    fact: Fact<D>,
-    key: Vec<u8>,
+    fact: Given<'_, D>,
 ) -> Result<(), Memory>
-    requires { length kept.old.items < 2 ^ 32 }
     ensures nodes { OnOk result (nodes.new.items ≡ nodes.old.items ++ node ∷ []) }
-    ensures kept { OnOk result (kept.new.items ≡ kept.old.items ++ fact ∷ []) }
-    ensures places { OnOk result
-        (EntersPlace places.old.entries places.new.entries key.items (length kept.old.items)) }
+    ensures kept { OnOk result (kept.new.items ≡ kept.old.items ++ given fact.entry ∷ []) }
     ensures same_nodes { OnErr result (nodes.new.items ≡ nodes.old.items) }
     ensures same_kept { OnErr result (kept.new.items ≡ kept.old.items) }
-    ensures same_places { OnErr result (places.new.entries ≡ places.old.entries) }
 {
-    let number = kept.len() as u32;
+    let fact = fact.owned(alloc)?;
     append_fact(kept, fact)?;
-    if append_entered(nodes, places, node, key, number).is_err() {
+    if append(nodes, node).is_err() {
         kept.pop();
         return Err(Memory);
     }
@@ -145,7 +119,7 @@ impl<D: Spelled> CertOf<D> {
             starts,
             nodes: Vec::new(alloc),
             kept: Vec::new(alloc),
-            places: BTreeMap::new(alloc),
+            places: Places::new(alloc),
         }
     }
 
@@ -190,11 +164,11 @@ impl<D: Spelled> CertOf<D> {
     }
 
     /// The rank of a node.
-    pub fn rank(&self, i: u32) -> &Form
+    pub fn rank(&self, i: u32) -> Form
         requires { i < length self.now.nodes }
-        ensures { result.now ≡ (node_at self.now i).rank }
+        ensures { result ≡ (node_at self.now i).rank }
     {
-        &self.nodes[i as usize].rank
+        self.nodes[i as usize].rank.form()
     }
 
     /// Is the node bare? Its one predecessor determines its fact.
@@ -236,32 +210,41 @@ impl<D: Spelled> CertOf<D> {
             (record { addr = addr; fact = Some fact.now; succ = succ.items; rank = rank })) }
         ensures err { OnErr result (self.new ≡ self.old) }
     {
+        self.push_given(addr, Given::Lent(fact), succ, rank)
+    }
+
+    /// Appends a node with a fact, which is taken where it isn't kept yet.
+    pub(crate) fn push_given(
+        &mut self,
+        addr: Addr,
+        fact: Given<'_, D>,
+        succ: Vec<u32>,
+        rank: Form,
+    ) -> Result<(), Memory>
+        requires room { length self.old.nodes < MOST_NODES }
+        requires cells { length (given fact).cells ≡ length self.old.cells }
+        ensures ok { OnOk result (self.new ≡ with_node self.old
+            (record { addr = addr; fact = Some (given fact.entry); succ = succ.items; rank = rank })) }
+        ensures err { OnErr result (self.new ≡ self.old) }
+    {
         addr.get();
-        let key = key_of(self.alloc, fact)?;
-        if let Some(number) = find(&self.places, key.as_slice()) {
-            let node = Node {
-                addr,
-                fact: Some(number),
-                succ,
-                rank,
-            };
-            return append(&mut self.nodes, node);
-        }
+        let key = key_of(self.alloc, fact.lent())?;
+        let rank = Rank::new(self.alloc, rank)?;
+        let place = enter(&mut self.places, key)?;
         let node = Node {
             addr,
-            fact: Some(self.kept.len() as u32),
+            fact: Some(place.unwrap_or(self.kept.len() as u32)),
             succ,
             rank,
         };
-        let copy = copied(self.alloc, fact)?;
-        append_new(
-            &mut self.nodes,
-            &mut self.kept,
-            &mut self.places,
-            node,
-            copy,
-            key,
-        )
+        if place.is_some() {
+            return append(&mut self.nodes, node);
+        }
+        if append_new(self.alloc, &mut self.nodes, &mut self.kept, node, fact).is_err() {
+            leave(&mut self.places);
+            return Err(Memory);
+        }
+        Ok(())
     }
 
     /// Appends a bare node. After `Memory` the certificate is as before.
@@ -272,6 +255,7 @@ impl<D: Spelled> CertOf<D> {
         ensures err { OnErr result (self.new ≡ self.old) }
     {
         addr.get();
+        let rank = Rank::new(self.alloc, rank)?;
         let node = Node {
             addr,
             fact: None,

@@ -7,12 +7,15 @@
 
 mod bare;
 mod cert;
+mod fact_bytes;
 mod fault;
 mod fields;
+mod given;
 mod laws;
 mod limits;
 mod places;
 mod put;
+mod rank;
 mod read_facts;
 mod read_nodes;
 mod read_ranks;

@@ -15,6 +15,7 @@ use crate::bare::first_bare;
 use crate::cert::Cert;
 use crate::fault::{CertFault, CertRule, ReadError};
 use crate::fields::{below_at, cells_at, count_at, numbers_at};
+use crate::given::Given;
 use crate::limits::{MAGIC, MOST_NODES, MOST_STARTS};
 use crate::read_nodes::{ReadNode, node_at};
 use crate::unread::{Unread, broken};
@@ -63,7 +64,7 @@ fn add(cert: &mut Cert, node: ReadNode) -> Result<(), Memory>
     } = node;
     match fact {
         None => cert.push_bare(addr, succ, rank),
-        Some(fact) => cert.push(addr, &fact, succ, rank),
+        Some(fact) => cert.push_given(addr, Given::Owned(fact), succ, rank),
     }
 }
 

@@ -144,7 +144,7 @@ fn put_node(out: &mut Vec<u8>, cert: &Cert, node: u32) -> Result<(), AllocError>
     put_u32(out, cert.addr(node).get())?;
     put_known(out, cert, node)?;
     put_numbers(out, cert.succ(node))?;
-    put_rank(out, cert.rank(node))
+    put_rank(out, &cert.rank(node))
 }
 
 /// All nodes.

@@ -1,5 +1,5 @@
 -- Values with equal bytes are equal.
-use Rattle.std.proofs.Common.{◌≡◌, ℕ, List, ◌++◌, length, refl, sym, ap, ◌∙◌}
+use Rattle.std.proofs.Common.{◌≡◌, ℕ, List, length, refl, sym, ap, ◌∙◌}
 use Rattle.std.specs.Prelude.{replicate}
 use Rattle.val_dom.specs.declared.val.Val.{Val}
 use Rattle.cert_format.specs.Values.{word_bytes, value_bytes, val_spelled}

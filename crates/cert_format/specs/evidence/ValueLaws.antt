@@ -1,13 +1,12 @@
 -- Values: what is read is spelled so, and what is spelled so is read.
-use Rattle.std.proofs.Common.{◌≡◌, ℕ, zero, suc, ◌+◌, ◌-◌, ◌^◌, ◌<◌, ◌≤◌, ℤ, pos, negsuc, neg_ℤ, ◌≤ℤ◌, ◌<ℤ◌, ◌-ℤ◌, int_lt, int_le, nat_abs, Bool, true, false, not, ◌&&◌, ◌||◌, cond, List, [], ◌∷◌, ◌++◌, length, Option, Some, None, Result, Ok, Err, refl, sym, ap, subst, ◌∙◌, append_assoc, arith, eqb, nat_lt, nat_le, ltb, ◌⊎◌, ⊎_elim, inl, inr}
+use Rattle.std.proofs.Common.{◌≡◌, ℕ, zero, suc, ◌^◌, ◌<◌, ℤ, pos, negsuc, ◌≤ℤ◌, ◌<ℤ◌, ◌-ℤ◌, int_lt, int_le, nat_abs, Bool, true, false, ◌&&◌, ◌||◌, List, ◌++◌, length, Option, Some, None, Ok, refl, sym, ap, subst, ◌∙◌, append_assoc, arith, nat_lt, ltb, ◌⊎◌, ⊎_elim, inl, inr}
 use Rattle.std.specs.Ordering.{int_eq}
-use Rattle.std.specs.Int.{w32, cast_signed, cast_unsigned}
+use Rattle.std.specs.Int.{w32, cast_unsigned}
 use Rattle.std.proofs.lemmas.Int.{ints, of_z-to_z, to_z-of_z}
-use Rattle.std.proofs.lemmas.List.{length-append}
-use Rattle.std.proofs.lemmas.Bool.{and_parts, and_from, ltb-true, lt-ltb, le-ltb, eqb-true, eq-eqb, ne_eqb, cases_Bool}
+use Rattle.std.proofs.lemmas.Bool.{and_from, lt-ltb, le-ltb, ne_eqb, cases_Bool}
 use Rattle.std.proofs.lemmas.Bool.Decides.{Decides-int_eq}
 use Rattle.std.proofs.lemmas.Option.{none-some, same_Some}
-use Rattle.viper_word.specs.Words.{IsSigned, is_signed, signed_value, least_signed, greatest_signed}
+use Rattle.viper_word.specs.Words.{IsSigned, is_signed, signed_value}
 use Rattle.viper_word.specs.Divisors.{Divides, divides}
 use Rattle.viper_word.proofs.Integers.{true_is_signed, le_true, le_false}
 use Rattle.viper_word.proofs.Multiples.{true_divides}
@@ -21,13 +20,12 @@ use Rattle.val_dom.specs.declared.val.Val.{Val}
 use Rattle.val_dom.specs.Normal.{P}
 use Rattle.val_dom.specs.evidence.ValLaws.{same_pair}
 use Rattle.val_dom.specs.evidence.NormalForms.{residue_is}
-use Rattle.cert_format.specs.declared.fault.Fault.{Fault}
 use Rattle.cert_format.specs.declared.limits.TheConstants.{VALUE}
-use Rattle.cert_format.specs.Values.{word_bytes, signed_bytes, value_bytes}
+use Rattle.cert_format.specs.Values.{word_bytes, value_bytes}
 use Rattle.cert_format.specs.Reading.{◌>>=◌, number_at}
 use Rattle.cert_format.specs.ReadValues.{value_if, value_of, or_value, parts_at, value_at}
 use Rattle.cert_format.specs.evidence.ValueForms.{IsValue, made, is_single, is_several, is_value, residue_of, value_is}
-use Rattle.cert_format.specs.evidence.Numbers.{IsBytes, Takes, Takes-then, Reader, bind_ok, spared, ok_is, err_not_ok, word_takes, word_again}
+use Rattle.cert_format.specs.evidence.Numbers.{IsBytes, Takes, Takes-then, bind_ok, spared, ok_is, err_not_ok, word_takes, word_again}
 
 -- the numbers of a value
 pub record HasParts (v : Val) (l h m r : ℤ) : Type 0 where

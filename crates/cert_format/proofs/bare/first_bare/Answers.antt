@@ -1,4 +1,4 @@
-use Rattle.std.proofs.Common.{◌≡◌, ℕ, ◌<◌, ◌≤◌, subst, sym, ◌∙◌}
+use Rattle.std.proofs.Common.{ℕ, ◌<◌, ◌≤◌, subst, sym, ◌∙◌}
 use Rattle.cert_format.specs.Bare.{first_bare}
 use Rattle.cert_format.proofs.MarkLaws.{goes_on, is_found, is_none}
 use Rattle.cert_format.proofs.bare.first_bare.Goals as goal

@@ -1,7 +1,7 @@
-use Rattle.std.proofs.Common.{◌≡◌, ◌++◌, ◌∷◌, [], ◌+◌, sym, subst, ℕ}
+use Rattle.std.proofs.Common.{◌≡◌, ◌++◌, ◌∷◌, []}
 use Rattle.std.proofs.lemmas.Result.{err_from_is_err_and}
-use Rattle.cert_format.specs.Fields.{cell_at, cells_at}
-use Rattle.cert_format.proofs.Loops.{with_front, cells_go_on, cells_end, cells_done}
+use Rattle.cert_format.specs.Fields.{cells_at}
+use Rattle.cert_format.proofs.Loops.{cells_go_on, cells_end, cells_done}
 use Rattle.cert_format.proofs.fields.cells_at.Goals as goal
 
 pub returns-in_err-addr : goal.returns-in_err-addr

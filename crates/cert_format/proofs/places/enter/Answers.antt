@@ -1,8 +1,13 @@
-use Rattle.std.proofs.Common.{◌≡◌, ◌∙◌, ap, ℕ, List}
-use Rattle.std.specs.Global.{Vec}
-use Rattle.cert_format.specs.Keeping.{found}
-use Rattle.cert_format.proofs.PlaceLaws.{found_insert}
+use Rattle.std.proofs.Common.{◌∙◌, sym}
+use Rattle.cert_format.proofs.PlaceLaws.{enters_known, enters_last}
 use Rattle.cert_format.proofs.places.enter.Goals as goal
 
+pub returns-then-is_new-clause-ok : goal.returns-then-is_new-clause-ok
+returns-then-is_new-clause-ok c =
+    let e = c.in_ok-number.ensures in
+    enters_last c.args.places.now.keys c.insert_full.new.self.keys c.args.key (sym c.if-is_new.true ∙ e.added) e.keys
+
 pub returns-clause-ok : goal.returns-clause-ok
-returns-clause-ok c = λ q. ap (λ (es : List (Vec ℕ × ℕ)). found es q) c.in_ok-insert.ensures.entries ∙ found_insert c.args.places.now.entries c.args.key c.args.number q
+returns-clause-ok c =
+    let e = c.in_ok-number.ensures in
+    enters_known c.args.places.now.keys c.insert_full.new.self.keys c.args.key c.in_ok-number.number (sym c.if-is_new.false ∙ e.added) e.keys e.stored

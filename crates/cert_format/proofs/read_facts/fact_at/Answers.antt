@@ -1,4 +1,4 @@
-use Rattle.std.proofs.Common.{◌≡◌, subst, sym, ℕ}
+use Rattle.std.proofs.Common.{subst, sym, ℕ}
 use Rattle.flag_relation.specs.Facts.{links_of}
 use Rattle.flag_relation.specs.Limits.{IsFactOf}
 use Rattle.cert_format.specs.ReadValues.{value_at}

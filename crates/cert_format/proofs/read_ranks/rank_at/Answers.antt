@@ -1,9 +1,9 @@
-use Rattle.std.proofs.Common.{◌≡◌, ◌∙◌, refl, ap, ℤ, List, true, Some, None, sym, subst, to_z, of_z, w64, arith}
+use Rattle.std.proofs.Common.{◌≡◌, ◌∙◌, refl, ap, ℤ, List, true, Some, to_z, of_z, w64, arith}
 use Rattle.std.specs.Int.{w128}
 use Rattle.std.proofs.lemmas.Int.{ints, to_z-of_z}
 use Rattle.flag_relation.specs.declared.var.Var.{Var}
 use Rattle.flag_relation.specs.declared.form.TheConstants.{MOST_TERMS}
-use Rattle.flag_relation.specs.Forms.{FormOf, form_of, is_form}
+use Rattle.flag_relation.specs.Forms.{form_of, is_form}
 use Rattle.cert_format.specs.declared.limits.TheConstants.{MOST_RANK}
 use Rattle.cert_format.proofs.FieldLimits.{signed_within, count_within}
 use Rattle.cert_format.proofs.RankLaws.{rank_is_form, terms_within}

@@ -1,7 +1,7 @@
-use Rattle.std.proofs.Common.{◌≡◌, ◌++◌, ◌∷◌, [], ◌+◌, sym, subst, ℕ, ap, ◌∙◌}
+use Rattle.std.proofs.Common.{◌≡◌, ◌++◌, ◌∷◌, []}
 use Rattle.std.proofs.lemmas.Result.{err_from_is_err_and}
-use Rattle.cert_format.specs.Fields.{term_at, terms_at}
-use Rattle.cert_format.proofs.Loops.{with_front, terms_go_on, terms_end, terms_done}
+use Rattle.cert_format.specs.Fields.{terms_at}
+use Rattle.cert_format.proofs.Loops.{terms_go_on, terms_end, terms_done}
 use Rattle.cert_format.proofs.read_ranks.terms_at.Goals as goal
 
 pub returns-in_err-term : goal.returns-in_err-term

@@ -1,4 +1,4 @@
-use Rattle.std.proofs.Common.{◌≡◌, ◌-◌, ◌≤◌, ◌^◌}
+use Rattle.std.proofs.Common.{◌≡◌, ◌-◌}
 use Rattle.cert_format.specs.Fields.{terms_at}
 use Rattle.cert_format.proofs.Loops.{with_front}
 use Rattle.cert_format.proofs.read_ranks.terms_at.Given as goal

@@ -1,6 +1,6 @@
-use Rattle.std.proofs.Common.{◌≡◌, ◌∙◌, true, false, refl, sym, subst, ap, arith, ℤ, ℕ, pos, to_z, of_z, w64, Bool}
+use Rattle.std.proofs.Common.{◌≡◌, ◌∙◌, true, false, refl, sym, subst, arith, ℤ, ℕ, pos, to_z, of_z, w64, Bool}
 use Rattle.std.proofs.lemmas.Int.{ints}
-use Rattle.cert_format.specs.evidence.ValueForms.{IsValue, is_value, residue_of}
+use Rattle.cert_format.specs.evidence.ValueForms.{is_value, residue_of}
 use Rattle.cert_format.specs.evidence.ValueLaws.{value_of_is, value_of_none, value_at_is}
 use Rattle.cert_format.proofs.read_values.value_of.Goals as goal
 

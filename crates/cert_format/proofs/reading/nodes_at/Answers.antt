@@ -1,8 +1,7 @@
-use Rattle.std.proofs.Common.{◌≡◌, ◌++◌, ◌∷◌, [], ◌∙◌, ◌+◌, ap, sym, subst, ℕ, List, length, arith, Ok}
-use Rattle.std.proofs.lemmas.List.{length-append}
+use Rattle.std.proofs.Common.{◌≡◌, [], ◌∙◌, ◌+◌, ap, sym, subst, ℕ, List, length, Ok}
 use Rattle.std.proofs.lemmas.Result.{err_from_is_err_and}
 use Rattle.val_dom.specs.declared.val.Val.{Val}
-use Rattle.cert_format.specs.Certificates.{CertificateOf, NodeOf}
+use Rattle.cert_format.specs.Certificates.{CertificateOf}
 use Rattle.cert_format.specs.Reading.{Fails, many_at}
 use Rattle.cert_format.specs.ReadNodes.{placed, placed_at}
 use Rattle.cert_format.specs.ReadCerts.{gathered}

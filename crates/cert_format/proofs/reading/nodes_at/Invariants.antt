@@ -1,5 +1,4 @@
 use Rattle.std.proofs.Common.{◌≡◌, ◌-◌, [], length}
-use Rattle.val_dom.specs.declared.val.Val.{Val}
 use Rattle.cert_format.specs.Reading.{many_at}
 use Rattle.cert_format.specs.ReadNodes.{placed_at}
 use Rattle.cert_format.specs.ReadCerts.{gathered}

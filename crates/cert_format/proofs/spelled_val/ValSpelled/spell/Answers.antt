@@ -1,4 +1,4 @@
-use Rattle.std.proofs.Common.{◌≡◌, ◌∙◌, ap, arith, List, ℕ, ℤ, get_or, ◌∷◌, [], refl, to_z, of_z, w64}
+use Rattle.std.proofs.Common.{◌≡◌, ◌∙◌, ap, arith, List, ℕ, get_or, ◌∷◌, [], refl, to_z, of_z, w64}
 use Rattle.std.specs.Int.{w32, to_be_bytes, cast_unsigned}
 use Rattle.std.proofs.lemmas.Int.{ints}
 use Rattle.val_dom.specs.declared.val.Val.{Val}
