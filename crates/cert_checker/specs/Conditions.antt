@@ -79,14 +79,18 @@ module _ {T : Type 0} (d : Domain T) (plan : PlanLines) (cells : List ℕ) (pric
   c10 nodes n os =
       list_all (λ o. is_marker plan o.target || falls_to n o (successor nodes n.succ o.target)) os
 
-  -- the first of C8 to C11 that fails; all hold of an empty fact, which no state meets
-  unfoldable pub flow_fault : List (NodeOf T) → NodeOf T → List (OutcomeOf T) → Option Cond
-  flow_fault nodes n os = (
-      if is_empty d (known d cells n) then None
-      else unless (c8 d cells nodes n os) C8
+  -- the first of C8 to C11 that fails
+  abbrev pub first_in_flow : List (NodeOf T) → NodeOf T → List (OutcomeOf T) → Option Cond
+  first_in_flow nodes n os =
+      unless (c8 d cells nodes n os) C8
       (unless (c9 n) C9
       (unless (c10 nodes n os) C10
-      (unless (c11 d plan cells n) C11 None))))
+      (unless (c11 d plan cells n) C11 None)))
+
+  -- all of them hold of an empty fact, which no state meets
+  unfoldable pub flow_fault : List (NodeOf T) → NodeOf T → List (OutcomeOf T) → Option Cond
+  flow_fault nodes n os =
+      (if is_empty d (known d cells n) then None else first_in_flow nodes n os)
 
   -- the first of C1 to C11 that fails
   unfoldable pub node_fault : List (NodeOf T) → NodeOf T → Option Cond

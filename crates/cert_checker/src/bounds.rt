@@ -39,7 +39,7 @@ fn bound_at<D: Spelled>(cert: &CertOf<D>, at: Addr) -> Bound
     let mut bound = Bound::Unreached;
     for i in 0..cert.len() {
         if cert.addr(i) == at && !known(cert, i).is_empty() {
-            bound = raised(size(upper(cert.rank(i), known(cert, i))), bound);
+            bound = raised(size(upper(&cert.rank(i), known(cert, i))), bound);
         }
     }
     bound

@@ -36,7 +36,7 @@ pub(crate) fn push_known<D: Spelled>(
         ≡ with_node done.old (record (node_at cert.now i) { fact = Some fact.now })) }
 {
     let succ = Vec::from_slice(alloc, cert.succ(i))?;
-    done.push(cert.addr(i), fact, succ, *cert.rank(i))
+    done.push(cert.addr(i), fact, succ, cert.rank(i))
 }
 
 /// Appends the node of that number as a bare one.
@@ -52,5 +52,5 @@ pub(crate) fn push_bare<D: Spelled>(
         ≡ with_node done.old (record (node_at cert.now i) { fact = None })) }
 {
     let succ = Vec::from_slice(alloc, cert.succ(i))?;
-    done.push_bare(cert.addr(i), succ, *cert.rank(i))
+    done.push_bare(cert.addr(i), succ, cert.rank(i))
 }
