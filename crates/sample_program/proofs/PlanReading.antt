@@ -1,5 +1,5 @@
 -- The text of the plan of a sample is read as that plan.
-use Rattle.std.proofs.Common.{◌≡◌, ◌∙◌, ℕ, zero, suc, ◌+◌, ◌*◌, ◌-◌, ◌<◌, ◌≤◌, ◌^◌, Bool, true, false, cond, eqb, ltb, leb, ◌||◌, List, [], ◌∷◌, ◌++◌, length, Option, Some, None, Ok, refl, sym, ap, subst, arith}
+use Rattle.std.proofs.Common.{◌≡◌, ◌∙◌, ℕ, zero, suc, ◌+◌, ◌*◌, ◌-◌, ◌<◌, ◌≤◌, ◌^◌, Bool, true, false, eqb, ltb, leb, ◌||◌, List, [], ◌∷◌, ◌++◌, length, Some, None, Ok, refl, sym, ap, subst, arith}
 use Rattle.std.specs.Prelude.{codes}
 use Rattle.std.specs.List.{All, list_any}
 use Rattle.std.proofs.lemmas.Bool.Decides.{nat_tests}
@@ -12,7 +12,7 @@ use Rattle.text_lines.specs.Parts.{parts_of, tokens_of}
 use Rattle.text_lines.specs.Reading.{Say}
 use Rattle.text_lines.proofs.Cuts.{lines_of_cut}
 use Rattle.memory_plan.specs.Hex.{hex_number}
-use Rattle.memory_plan.specs.Numbers.{range_text, between}
+use Rattle.memory_plan.specs.Numbers.{range_text}
 use Rattle.memory_plan.specs.PlanRules.{all_words, empty_plan, SoFar, nothing_yet, add_line, broken_rule, judge_kept, judge_shape, judge_line}
 use Rattle.memory_plan.specs.Plans.{PlanLines, code_words}
 use Rattle.memory_plan.specs.Images.{ImageWords, numbers}

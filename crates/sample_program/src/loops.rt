@@ -31,7 +31,8 @@ impl Loops {
 
     /// So many loops. None exactly where the number isn't from 1 to 1,000.
     pub fn new(number: u64) -> Option<Loops>
-        ensures { result ≡ (if nat_le 1 number && nat_le number MOST_LOOPS then Some number else None) }
+        ensures { result ≡
+            (if nat_le 1 number && nat_le number MOST_LOOPS then Some number else None) }
     {
         if 1 <= number && number <= MOST_LOOPS {
             Some(Loops { number })

@@ -1,4 +1,4 @@
-use Rattle.std.proofs.Common.{◌≡◌, ◌∙◌, ◌≤◌, arith}
+use Rattle.std.proofs.Common.{◌∙◌, ◌≤◌, arith}
 use Rattle.sample_program.proofs.PlanReading.{is_sample, no_fault}
 use Rattle.sample_program.proofs.plan.sample_plan.Goals as goal
 
