@@ -133,17 +133,16 @@ fn push_rise(
     if i >= cert.len() || next >= cert.len() || plan.is_marker(out.target) {
         return Ok(false);
     }
-    let by = change(cert.rank(i), cert.rank(next), out);
+    let here = cert.rank(i);
+    let there = cert.rank(next);
+    let by = change(&here, &there, out);
     if by <= -1 {
         return Ok(false);
     }
     let cells = cert.cells();
-    let from = FormWords {
-        form: cert.rank(i),
-        cells,
-    };
+    let from = FormWords { form: &here, cells };
     let to = FormWords {
-        form: cert.rank(next),
+        form: &there,
         cells,
     };
     write!(
@@ -155,7 +154,7 @@ fn push_rise(
         text,
         "over the step it may change by {by}, and must fall by 1"
     )?;
-    for (var, _) in cert.rank(next).terms() {
+    for (var, _) in there.terms() {
         push_post(text, cert, out, *var)?;
     }
     Ok(true)
@@ -188,15 +187,16 @@ fn push_bounds(text: &mut String, cert: &Cert, i: u32, cond: Cond) -> Result<(),
     if i >= cert.len() {
         return Ok(());
     }
+    let rank = cert.rank(i);
     let words = FormWords {
-        form: cert.rank(i),
+        form: &rank,
         cells: cert.cells(),
     };
     if cond == Cond::C11 {
         let most = greatest(cert, i);
         writeln!(text, "C11: the rank {words} may be {most}, over 2^63 - 1")?;
     } else if let Some(fact) = known(cert, i) {
-        let least = lower(cert.rank(i), fact);
+        let least = lower(&rank, fact);
         writeln!(
             text,
             "C9: the rank {words} may be {least}, and must be at least 1"

@@ -17,7 +17,7 @@ pub fn greatest(cert: &Cert, i: u32) -> i128 {
         return 0;
     }
     match known(cert, i) {
-        Some(fact) => upper(cert.rank(i), fact),
+        Some(fact) => upper(&cert.rank(i), fact),
         None => 0,
     }
 }

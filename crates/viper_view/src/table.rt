@@ -34,8 +34,9 @@ pub fn known(cert: &Cert, i: u32) -> Option<&Fact<Val>>
 /// The rank of a node in words; of no node nothing.
 pub fn rank_words(alloc: Global, cert: &Cert, i: u32) -> Result<String, Memory> {
     if i < cert.len() {
+        let rank = cert.rank(i);
         let words = FormWords {
-            form: cert.rank(i),
+            form: &rank,
             cells: cert.cells(),
         };
         Ok(words.to_string(alloc)?)
