@@ -1,7 +1,7 @@
 //! `certify` over a shelf and a page: worked programs, and what a check says of the certificates.
 
-use crate::check_tests::held;
 use crate::tests::{CHECK, LOOP, LOOP_PLAN, answers, shelf_of};
+use crate::upgrade_tests::held;
 use std::alloc::Global;
 use std::test::Fail;
 use viper_io::{Page, Shelf};

@@ -8,11 +8,17 @@ mod certify_tests;
 #[cfg(test)]
 mod check_tests;
 #[cfg(test)]
+mod content_tests;
+#[cfg(test)]
+mod format_tests;
+#[cfg(test)]
 mod run_tests;
 #[cfg(test)]
 mod source_tests;
 #[cfg(test)]
 mod tests;
+#[cfg(test)]
+mod upgrade_tests;
 
 use std::alloc::{AllocError, Global};
 use std::process::ExitCode;
