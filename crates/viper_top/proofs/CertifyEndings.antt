@@ -1,5 +1,5 @@
--- How a certification is refused.
-use Rattle.std.proofs.Common.{◌≡◌, ◌≢◌, ℕ, ◌≤◌, List, length, Option, Result, Ok, Err, subst, inr}
+-- How a certification is refused, and how a sample ends.
+use Rattle.std.proofs.Common.{◌≡◌, ◌≢◌, ◌∙◌, ap, ℕ, ◌≤◌, List, length, Option, Result, Ok, Err, subst, inl, inr}
 use Rattle.std.specs.Prelude.{IfOk}
 use Rattle.memory_plan.specs.Plans.{PlanLines}
 use Rattle.viper_word.specs.declared.memory.Memory.{Memory}
@@ -12,11 +12,13 @@ use Rattle.cert_format.specs.declared.limits.TheConstants.{MOST_NODES}
 use Rattle.certifier.specs.declared.fault.CertifyFault.{CertifyFault}
 use Rattle.certifier.specs.declared.fault.CertifyFault.TheVariants as faults
 use Rattle.certifier.specs.Faults.{IsCertifyFault, IsPastSolving}
+use Rattle.certifier.specs.Made.{IsMade}
 use Rattle.viper_top.specs.declared.answer.Answer.{Answer}
 use Rattle.sample_program.specs.Samples.{sample_plan}
+use Rattle.viper_top.specs.Certificates.{Certificate, Local, bounds_of}
 use Rattle.viper_top.specs.Certify.{Certifies, EndsRefused, refusal_text}
-use Rattle.viper_top.specs.Sample.{Samples}
-use Rattle.viper_top.specs.Endings.{refused}
+use Rattle.viper_top.specs.Sample.{EndsSampled, Samples, sample_text}
+use Rattle.viper_top.specs.Endings.{done, refused}
 use Rattle.viper_top.specs.Stages.{ending_of}
 
 -- a cause that is true of the plan, and its text
@@ -34,3 +36,15 @@ sample_refused loops plan cause (Ok a) e t s is other =
     let ends : EndsRefused plan (ending_of a) = record { cause = cause; is_true = t; not_memory = other; solvable = s; is = is } in
     inr (subst (λ (p : PlanLines). EndsRefused p (ending_of a)) e ends)
 sample_refused loops plan cause (Err m) e t s is other = tt
+
+-- the numbers of a certificate that was made for a sample's plan, and holds
+pub sample_made : (loops : ℕ) (plan : PlanLines) (c : Certificate) (text : List ℕ) → plan ≡ sample_plan loops → IsMade vals plan c → Local plan c
+    → text ≡ sample_text loops (length plan.image) (length c.nodes) (bounds_of plan c) → Samples loops (done text)
+sample_made loops plan c text e made local is =
+    let ends : EndsSampled loops (done text) = record {
+      certificate = c;
+      made_of = subst (λ (p : PlanLines). IsMade vals p c) e made;
+      local = subst (λ (p : PlanLines). Local p c) e local;
+      is = ap done (is ∙ ap (λ (p : PlanLines). sample_text loops (length p.image) (length c.nodes) (bounds_of p c)) e);
+    } in
+    inl ends
